@@ -1,0 +1,5 @@
+pub mod Streets
+pub mod Meaning
+pub mod Protocol
+pub mod Calls
+pub mod Promise

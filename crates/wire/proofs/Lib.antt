@@ -1,0 +1,3 @@
+pub mod Puts
+pub mod Pairs
+pub mod Rounds

@@ -1,0 +1,75 @@
+-- Calls and answers as rows of bytes.
+use mathlib.Core.Bool.{Bool, true, false, cond}
+use mathlib.Core.List.{List, [], _∷_, _++_}
+use Prim.Native.Nat.{ℕ, zero, suc, min, _+_, _*_, _/_, _%_, _<_}
+use lib.Dec.{eqb}
+use lib.ListN.{length, getD, drop}
+use Rattle.std.specs.declared.result.Result.{Result}
+use Rattle.std.specs.declared.result.Result.the-variants.{Ok, Err}
+use Rattle.std.specs.shelf.Lists.{All}
+use Rattle.streets.specs.Streets.{Leg}
+use Rattle.streets.specs.Calls.{Call, opens, closes, odd, round, garbled, Answer, refused, number, shortest, some-round, never}
+use Rattle.wire.specs.Rows.{word, word-at}
+
+-- what a row reads as, if just n bytes follow its first one; else the place of the first byte that is missing or too many
+abbrev pub fitting : {A : Type 0} → ℕ → List ℕ → A → Result A ℕ
+fitting n bs a = cond (eqb (length bs) n) (Ok a) (Err (1 + min n (length bs)))
+
+-- a call: its number, and its fields
+abbrev pub call-row : Call → List ℕ
+call-row (opens a b n) = 0 ∷ (word a ++ (word b ++ word n))
+call-row (closes i) = 1 ∷ word i
+call-row odd = 2 ∷ []
+call-row (round c) = 3 ∷ word c
+call-row (garbled p) = []
+
+abbrev pub call-in : List ℕ → Result Call ℕ
+call-in [] = Err 0
+call-in (k ∷ bs) =
+    cond (eqb k 0) (fitting 12 bs (opens (word-at bs 0) (word-at bs 4) (word-at bs 8)))
+    (cond (eqb k 1) (fitting 4 bs (closes (word-at bs 0)))
+    (cond (eqb k 2) (fitting 0 bs odd)
+    (cond (eqb k 3) (fitting 4 bs (round (word-at bs 0)))
+    (Err 0))))
+
+-- a leg: the street times 2, and 1 more if it is gone back, in two bytes
+abbrev pub leg-code : Leg → ℕ
+leg-code l = 2 * l .along + cond (l .back) 1 0
+
+-- so that two bytes hold it, a leg's street has a number of 15 bits
+abbrev pub Short : List Leg → Type 0
+Short ls = All (λ l. l .along < 32768) ls
+
+abbrev pub leg-row : Leg → List ℕ
+leg-row l = leg-code l % 256 ∷ leg-code l / 256 % 256 ∷ []
+
+abbrev pub leg-at : List ℕ → ℕ → Leg
+leg-at bs i =
+    record { along = (getD bs i 0 + getD bs (i + 1) 0 * 256) / 2; back = eqb ((getD bs i 0 + getD bs (i + 1) 0 * 256) % 2) 1 }
+
+unfoldable pub legs-row : List Leg → List ℕ
+legs-row [] = []
+legs-row (l ∷ ls) = leg-row l ++ legs-row ls
+
+-- so many legs, from the front of bytes on
+unfoldable pub legs-in : ℕ → List ℕ → List Leg
+legs-in zero bs = []
+legs-in (suc n) bs = leg-at bs 0 ∷ legs-in n (drop 2 bs)
+
+-- an answer: its number, and its numbers; legs come after their count
+abbrev pub answer-row : Answer → List ℕ
+answer-row (refused k p) = 0 ∷ (word k ++ word p)
+answer-row (number n) = 1 ∷ word n
+answer-row (shortest ls) = 2 ∷ (word (length ls) ++ legs-row ls)
+answer-row (some-round ls low) = 3 ∷ (word (length ls) ++ (legs-row ls ++ word low))
+answer-row never = 4 ∷ []
+
+abbrev pub answer-in : List ℕ → Result Answer ℕ
+answer-in [] = Err 0
+answer-in (k ∷ bs) =
+    cond (eqb k 0) (fitting 8 bs (refused (word-at bs 0) (word-at bs 4)))
+    (cond (eqb k 1) (fitting 4 bs (number (word-at bs 0)))
+    (cond (eqb k 2) (fitting (4 + 2 * word-at bs 0) bs (shortest (legs-in (word-at bs 0) (drop 4 bs))))
+    (cond (eqb k 3) (fitting (8 + 2 * word-at bs 0) bs (some-round (legs-in (word-at bs 0) (drop 4 bs)) (word-at bs (4 + 2 * word-at bs 0))))
+    (cond (eqb k 4) (fitting 0 bs never)
+    (Err 0)))))

@@ -1,0 +1,51 @@
+-- The calls and answers that the code's enums stand for.
+use mathlib.Core.List.{List}
+use Prim.Native.Nat.{ℕ, _+_, _*_}
+use Rattle.std.specs.declared.result.Result.{Result}
+use Rattle.std.specs.declared.result.Result.the-variants.{Ok, Err}
+use Rattle.std.specs.declared.option.Option.{Option}
+use Rattle.std.specs.declared.option.Option.the-variants.{Some, None}
+use Rattle.streets.specs.Streets.{Leg}
+use Rattle.streets.specs.Calls.{Call, opens, closes, odd, round, Answer, refused, number, shortest, some-round, never}
+use Rattle.wire.specs.Format.{legs-in}
+use Rattle.wire.specs.declared.answer.Answer.{Answer as Answer-enum}
+use Rattle.wire.specs.declared.answer.Answer.the-variants.{Refused, Number, Shortest, SomeRound, Never}
+use Rattle.wire.specs.declared.call.Call.{Call as Call-enum}
+use Rattle.wire.specs.declared.call.Call.the-variants.{Open, Close, Odd, Round}
+
+abbrev pub as-call : Call-enum → Call
+as-call (Open a b n) = opens a b n
+as-call (Close i) = closes i
+as-call Odd = odd
+as-call (Round c) = round c
+
+-- an answer whose legs stand in these bytes
+abbrev pub as-answer : List ℕ → Answer-enum → Answer
+as-answer part (Refused k p) = refused k p
+as-answer part (Number n) = number n
+as-answer part (Shortest n) = shortest (legs-in n part)
+as-answer part (SomeRound n low) = some-round (legs-in n part) low
+as-answer part Never = never
+
+-- how many bytes it takes
+abbrev pub answer-size : Answer-enum → ℕ
+answer-size (Refused k p) = 9
+answer-size (Number n) = 5
+answer-size (Shortest n) = 5 + 2 * n
+answer-size (SomeRound n low) = 9 + 2 * n
+answer-size Never = 1
+
+-- a round that is answered as a shortest one, or with a length below which there is none
+abbrev pub as-round : List Leg → Option ℕ → Answer
+as-round ls None = shortest ls
+as-round ls (Some low) = some-round ls low
+
+-- the same by how many legs it has
+abbrev pub counted : ℕ → Option ℕ → Answer-enum
+counted n None = Shortest n
+counted n (Some low) = SomeRound n low
+
+-- what was read, by what it stands for, or the place where reading stopped
+abbrev pub read-as : {A B : Type 0} → (A → B) → Result A ℕ → Result B ℕ
+read-as f (Ok a) = Ok (f a)
+read-as f (Err p) = Err p

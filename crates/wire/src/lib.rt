@@ -1,0 +1,17 @@
+// Calls and answers as bytes.
+mod answer;
+mod call;
+mod legs;
+mod rows;
+
+pub use answer::Answer;
+pub use answer::LEGS_AT;
+pub use answer::read_answer;
+pub use answer::write_answer;
+pub use answer::write_round;
+pub use call::Call;
+pub use call::read_call;
+pub use call::write_call;
+pub use legs::read_leg;
+pub use legs::write_leg;
+pub use legs::write_legs;
