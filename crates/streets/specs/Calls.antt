@@ -9,17 +9,17 @@ use Rattle.streets.specs.Streets.{Street, Leg, joining, is-round, how-long, od
 use Rattle.streets.specs.Protocol.{Check, asking, Protocol}
 
 pub data Call : Type 0 where
-  opens : ℕ → ℕ → ℕ → Call -- a street: two corners, how long
-  closes : ℕ → Call -- the street with this number goes, and those after it have each one number less
-  odd : Call -- how many corners are odd
-  round : ℕ → Call -- a shortest round from a corner
-  garbled : ℕ → Call -- what can't be read, with the place of the first byte that doesn't fit
+  opens : ℕ → ℕ → ℕ → Call  -- a street: two corners, how long
+  closes : ℕ → Call  -- the street with this number goes, and those after it have each one number less
+  odd : Call  -- how many corners are odd
+  round : ℕ → Call  -- a shortest round from a corner
+  garbled : ℕ → Call  -- what can't be read, with the place of the first byte that doesn't fit
 
 pub data Answer : Type 0 where
-  refused : ℕ → ℕ → Answer -- a number and a place
+  refused : ℕ → ℕ → Answer  -- a number and a place
   number : ℕ → Answer
   shortest : List Leg → Answer
-  some-round : List Leg → ℕ → Answer -- with a length below which there is no round
+  some-round : List Leg → ℕ → Answer  -- with a length below which there is no round
   never : Answer
 
 -- how many corners there are, and how many streets there may be

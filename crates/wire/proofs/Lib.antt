@@ -1,3 +1,5 @@
 pub mod Puts
 pub mod Pairs
 pub mod Rounds
+pub mod Words
+pub mod Reading

@@ -11,7 +11,7 @@ use native.Mathlib.Nat.{add-assoc}
 use Rattle.std.specs.declared.option.Option.the-variants.{Some, None}
 use Rattle.std.proofs.shelf.Tests.{le-leb}
 use Rattle.std.specs.declared.option.Option.{Option}
-use Rattle.wire.specs.Rows.{put, room, Written}
+use Rattle.wire.specs.Rows.{put, Written, Written-if}
 
 -- what a part that was lent holds now is a row
 pub put-part : (a k : ℕ) (xs ys row : List ℕ) → ys ≡ row → k ≡ length row → putMid a k xs ys ≡ put xs a row
@@ -37,10 +37,10 @@ put-same bs n m h =
     let e : length (take m (drop n bs)) ≡ m = simp (length-take, length-drop) (omega arith) in
     rw (e, ← drop-drop, take-append-drop, take-append-drop)
 
-pub wholly : (fits : Bool) (row before after : List ℕ) (r : ℕ) → fits ≡ true → r ≡ length row → after ≡ put before 0 row → Written fits row before (Some r) after
+pub wholly : (fits : Bool) (row before after : List ℕ) (r : ℕ) → fits ≡ true → r ≡ length row → after ≡ put before 0 row → Written-if fits row before (Some r) after
 wholly fits row before after r t e w = record { count = rw (t, e); bytes = rw t w }
 
-pub unwritten : (fits : Bool) (row before : List ℕ) → fits ≡ false → Written fits row before None before
+pub unwritten : (fits : Bool) (row before : List ℕ) → fits ≡ false → Written-if fits row before None before
 unwritten fits row before t = record { count = rw t; bytes = rw t }
 
 -- a byte before the place where a row is put is as it was
@@ -56,7 +56,7 @@ put-past bs row i n h l =
     rw (← m, ← drop-drop, ← append-assoc, at, drop-drop)
 
 -- a row that is written over a part of itself is written over what was there before
-pub written-over : (fits : Bool) (row over base bs bs′ : List ℕ) (i : ℕ) (r : Option ℕ) → fits ≡ true → i + length over ≤ length row → length row ≤ length base → bs ≡ put base i over → Written (room row bs) row bs r bs′ → Written fits row base r bs′
+pub written-over : (fits : Bool) (row over base bs bs′ : List ℕ) (i : ℕ) (r : Option ℕ) → fits ≡ true → i + length over ≤ length row → length row ≤ length base → bs ≡ put base i over → Written row bs r bs′ → Written-if fits row base r bs′
 written-over fits row over base bs bs′ i r t h l was w =
     let long : length bs ≡ length base = rw was (simp (length-append, length-take, length-drop) (omega arith)) in
     let fit = le-leb (length row) (length bs) (omega arith) in

@@ -12,7 +12,7 @@ use Rattle.std.proofs.shelf.Tests.{le-leb}
 use Rattle.std.specs.declared.option.Option.{Option}
 use Rattle.std.specs.declared.option.Option.the-variants.{Some, None}
 use Rattle.streets.specs.Streets.{Leg}
-use Rattle.wire.specs.Rows.{Bytes, put, word, room, Written}
+use Rattle.wire.specs.Rows.{Bytes, put, word, Written, Written-if}
 use Rattle.wire.specs.Format.{answer-row, legs-in, legs-row, Short}
 use Rattle.wire.specs.Meaning.{as-answer, answer-size, as-round, counted}
 use Rattle.wire.specs.declared.answer.Answer.{Answer as Answer-enum}
@@ -39,7 +39,7 @@ module _ (n : ℕ) (base bs : List ℕ) where
       let ls = legs-in n (drop 5 base) in
       let long : length bs ≡ length base = rw puts (simp (length-append, length-take, length-drop, length-set) (omega arith)) in
       let before : (k : ℕ) → k < 5 + 2 * n → getD bs k 0 < 256 =
-          λ k l. let e : getD bs′ k 0 ≡ getD bs k 0 = rw ends (byte-before bs (word low) (9 + 2 * n - 4) k (omega arith) (omega arith)) in omega (arith, b k)
+      λ k l. let e : getD bs′ k 0 ≡ getD bs k 0 = rw ends (byte-before bs (word low) (9 + 2 * n - 4) k (omega arith) (omega arith)) in omega (arith, b k)
       in
       put-then base (3 ∷ (word (length ls) ++ legs-row ls)) (word low) (9 + 2 * n - 4) (head-written 3 (omega arith) puts before) ends (omega (arith, length-legs-row ls, length-legs-in n (drop 5 base)))
 
@@ -68,7 +68,7 @@ legs-handed-on f xs base ys fit h t was =
     put-part 5 (5 + 2 * length xs - 5) base ys (legs-row (map f xs)) ((rw fits at was) ∙ put-all (legs-part (length xs) base) (legs-row (map f xs)) (omega arith)) (omega arith)
 
 -- and the answer that was written around them
-pub round-written : (fits : Bool) (ls : List Leg) (low : Option ℕ) {n : ℕ} {a : Answer-enum} {base bs bs′ : List ℕ} {r : Option ℕ} → Short ls → n ≡ length ls → a ≡ counted n low → fits ≡ true → length (answer-row (as-round ls low)) ≤ length base → bs ≡ put base 5 (legs-row ls) → Written (room (answer-row (as-answer (drop 5 bs) a)) bs) (answer-row (as-answer (drop 5 bs) a)) bs r bs′ → Written fits (answer-row (as-round ls low)) base r bs′
+pub round-written : (fits : Bool) (ls : List Leg) (low : Option ℕ) {n : ℕ} {a : Answer-enum} {base bs bs′ : List ℕ} {r : Option ℕ} → Short ls → n ≡ length ls → a ≡ counted n low → fits ≡ true → length (answer-row (as-round ls low)) ≤ length base → bs ≡ put base 5 (legs-row ls) → Written (answer-row (as-answer (drop 5 bs) a)) bs r bs′ → Written-if fits (answer-row (as-round ls low)) base r bs′
 round-written fits ls low {n} {a} {base} {bs} {bs′} {r} short count is t h was w =
     let five = length-round ls low in
     let part : drop 5 bs ≡ legs-row ls ++ drop (5 + length (legs-row ls)) base = rw was (drop-at (take 5 base) _ 5 (simp length-take (omega arith))) in

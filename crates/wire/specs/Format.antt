@@ -3,7 +3,7 @@ use mathlib.Core.Bool.{Bool, true, false, cond}
 use mathlib.Core.List.{List, [], _∷_, _++_}
 use Prim.Native.Nat.{ℕ, zero, suc, min, _+_, _*_, _/_, _%_, _<_}
 use lib.Dec.{eqb}
-use lib.ListN.{length, getD, drop}
+use lib.ListN.{length, getD, take, drop}
 use Rattle.std.specs.declared.result.Result.{Result}
 use Rattle.std.specs.declared.result.Result.the-variants.{Ok, Err}
 use Rattle.std.specs.shelf.Lists.{All}
@@ -32,6 +32,19 @@ call-in (k ∷ bs) =
     (cond (eqb k 3) (fitting 4 bs (round (word-at bs 0)))
     (Err 0))))
 
+-- the call that a row stands for, whatever it holds
+abbrev pub called : Result Call ℕ → Call
+called (Ok c) = c
+called (Err p) = garbled p
+
+-- the row of the first of calls that stand one after the other, as far as there are bytes of it
+abbrev pub fields-size : ℕ → ℕ
+fields-size k = cond (eqb k 0) 12 (cond (eqb k 1) 4 (cond (eqb k 3) 4 0))
+
+abbrev pub first-row : List ℕ → List ℕ
+first-row [] = []
+first-row (k ∷ bs) = k ∷ take (fields-size k) bs
+
 -- a leg: the street times 2, and 1 more if it is gone back, in two bytes
 abbrev pub leg-code : Leg → ℕ
 leg-code l = 2 * l .along + cond (l .back) 1 0
@@ -56,7 +69,10 @@ unfoldable pub legs-in : ℕ → List ℕ → List Leg
 legs-in zero bs = []
 legs-in (suc n) bs = leg-at bs 0 ∷ legs-in n (drop 2 bs)
 
--- an answer: its number, and its numbers; legs come after their count
+-- an answer: its number, and its numbers; legs come after their count, at a place of their own
+abbrev pub legs-at : ℕ
+legs-at = 5
+
 abbrev pub answer-row : Answer → List ℕ
 answer-row (refused k p) = 0 ∷ (word k ++ word p)
 answer-row (number n) = 1 ∷ word n

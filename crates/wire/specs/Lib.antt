@@ -1,3 +1,4 @@
 pub mod Rows
 pub mod Format
 pub mod Meaning
+pub mod Laws

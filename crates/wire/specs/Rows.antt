@@ -22,10 +22,13 @@ word-at bs i = getD bs i 0 + getD bs (i + 1) 0 * 256 + getD bs (i + 2) 0 * 65536
 abbrev pub put : List ℕ → ℕ → List ℕ → List ℕ
 put bs i row = take i bs ++ (row ++ drop (i + length row) bs)
 
+-- where it fits, a row is written to the front of lent bytes and its length is answered; else nothing is written
+pub record Written-if (fits : Bool) (row before : List ℕ) (r : Option ℕ) (after : List ℕ) : Type 0 where
+  pub count : r ≡ cond fits (Some (length row)) None
+  pub bytes : after ≡ cond fits (put before 0 row) before
+
 abbrev pub room : List ℕ → List ℕ → Bool
 room row lent = leb (length row) (length lent)
 
--- where it fits, a row is written to the front of lent bytes and its length is answered; else nothing is written
-pub record Written (fits : Bool) (row before : List ℕ) (r : Option ℕ) (after : List ℕ) : Type 0 where
-  pub count : r ≡ cond fits (Some (length row)) None
-  pub bytes : after ≡ cond fits (put before 0 row) before
+abbrev pub Written : List ℕ → List ℕ → Option ℕ → List ℕ → Type 0
+Written row before r after = Written-if (room row before) row before r after

@@ -8,8 +8,8 @@ ghost use lib.ListN.{length, drop};
 ghost use Rattle.std.specs.declared.result.Result.the-variants.{Ok, Err};
 ghost use Rattle.streets.specs.Meaning.{as-leg};
 ghost use Rattle.streets.specs.Promise.{field};
-ghost use Rattle.wire.specs.Rows.{Written, room, word-at};
-ghost use Rattle.wire.specs.Format.{answer-row, answer-in};
+ghost use Rattle.wire.specs.Rows.{Written, Written-if, room, word-at};
+ghost use Rattle.wire.specs.Format.{answer-row, answer-in, legs-at};
 ghost use Rattle.wire.specs.Meaning.{as-answer, answer-size, as-round, counted, read-as};
 use super::legs::write_legs;
 use super::rows::exactly;
@@ -46,7 +46,7 @@ impl Answer {
 
 // Writes an answer around its legs, which stay as they stand in `bytes`.
 pub fn write_answer(answer: Answer, bytes: &mut [u8]) -> Option<usize>
-    ensures { λ r. ⌜ Written (room (answer-row (as-answer (drop 5 (now (bytes .entry))) answer)) (now (bytes .entry))) (answer-row (as-answer (drop 5 (now (bytes .entry))) answer)) (now (bytes .entry)) r (now (bytes .exit)) ⌝ }
+    ensures { λ r. ⌜ Written (answer-row (as-answer (drop legs-at (now (bytes .entry))) answer)) (now (bytes .entry)) r (now (bytes .exit)) ⌝ }
 {
     let size = answer.size();
     if bytes.len() < size {
@@ -88,7 +88,7 @@ fn counting(legs: u32, low: Option<u32>) -> Answer
 
 // Writes a round's legs into their part, and the answer around them.
 pub fn write_round(legs: &[Leg], low: Option<u32>, bytes: &mut [u8]) -> Option<usize>
-    ensures { λ r. ⌜ Written (field (length (now (legs .entry))) && room (answer-row (as-round (map as-leg (now (legs .entry))) low)) (now (bytes .entry))) (answer-row (as-round (map as-leg (now (legs .entry))) low)) (now (bytes .entry)) r (now (bytes .exit)) ⌝ }
+    ensures { λ r. ⌜ Written-if (field (length (now (legs .entry))) && room (answer-row (as-round (map as-leg (now (legs .entry))) low)) (now (bytes .entry))) (answer-row (as-round (map as-leg (now (legs .entry))) low)) (now (bytes .entry)) r (now (bytes .exit)) ⌝ }
 {
     let Ok(count) = u32::try_from(legs.len()) else {
         return None;
@@ -112,7 +112,7 @@ fn read_count(rest: &[u8]) -> Result<u32, usize>
 }
 
 pub fn read_answer(row: &[u8]) -> Result<Answer, usize>
-    ensures { λ r. ⌜ read-as (as-answer (drop 5 (now (row .entry)))) r ≡ answer-in (now (row .entry)) ⌝ }
+    ensures { λ r. ⌜ read-as (as-answer (drop legs-at (now (row .entry)))) r ≡ answer-in (now (row .entry)) ⌝ }
 {
     let Some((kind, rest)) = row.split_first() else {
         return Err(0);

@@ -1,8 +1,8 @@
 // Calls as rows of bytes.
 ghost use mathlib.Core.Path.{_≡_};
 ghost use lib.ListN.{length};
-ghost use Rattle.wire.specs.Rows.{Written, room};
-ghost use Rattle.wire.specs.Format.{call-row, call-in};
+ghost use Rattle.wire.specs.Rows.{Written};
+ghost use Rattle.wire.specs.Format.{call-row, call-in, first-row};
 ghost use Rattle.wire.specs.Meaning.{as-call, read-as};
 use super::rows::exactly;
 use super::rows::put_word;
@@ -34,7 +34,9 @@ pub fn read_call(row: &[u8]) -> Result<Call, usize>
         }
         1 => {
             exactly(4, fields)?;
-            Ok(Call::Close { street: read_word(fields, 0) })
+            Ok(Call::Close {
+                street: read_word(fields, 0),
+            })
         }
         2 => {
             exactly(0, fields)?;
@@ -42,10 +44,27 @@ pub fn read_call(row: &[u8]) -> Result<Call, usize>
         }
         3 => {
             exactly(4, fields)?;
-            Ok(Call::Round { from: read_word(fields, 0) })
+            Ok(Call::Round {
+                from: read_word(fields, 0),
+            })
         }
         _ => Err(0),
     }
+}
+
+// The row of the first of calls that stand one after the other, as far as there are bytes of it.
+pub fn first_row(calls: &[u8]) -> &[u8]
+    ensures { λ r. ⌜ now r ≡ first-row (now (calls .entry)) ⌝ }
+{
+    let Some(kind) = calls.first() else {
+        return calls;
+    };
+    let size = match *kind {
+        0 => 13,
+        1 | 3 => 5,
+        _ => 1,
+    };
+    &calls[0..calls.len().min(size)]
 }
 
 impl Call {
@@ -62,7 +81,7 @@ impl Call {
 }
 
 pub fn write_call(call: Call, bytes: &mut [u8]) -> Option<usize>
-    ensures { λ r. ⌜ Written (room (call-row (as-call call)) (now (bytes .entry))) (call-row (as-call call)) (now (bytes .entry)) r (now (bytes .exit)) ⌝ }
+    ensures { λ r. ⌜ Written (call-row (as-call call)) (now (bytes .entry)) r (now (bytes .exit)) ⌝ }
 {
     let size = call.size();
     if bytes.len() < size {

@@ -20,7 +20,10 @@ pub fn read_leg(part: &[u8], k: usize) -> Option<Leg>
         return None;
     }
     let code = u16::from_le_bytes([part[2 * k], part[2 * k + 1]]);
-    Some(Leg { along: code / 2, back: code % 2 == 1 })
+    Some(Leg {
+        along: code / 2,
+        back: code % 2 == 1,
+    })
 }
 
 // Writes the leg at place `k`; false, and nothing is written, where the part does not reach so far.

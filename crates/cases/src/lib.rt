@@ -1,0 +1,5 @@
+// Tables of cases for the crates below, run as tests.
+#[cfg(test)]
+mod answers;
+#[cfg(test)]
+mod calls;
