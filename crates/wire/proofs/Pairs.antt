@@ -1,5 +1,5 @@
 -- Legs in bytes, two for each.
-use mathlib.Core.Path.{_≡_, refl, sym, ap, _∙_}
+use mathlib.Core.Path.{_≡_, refl, ap, _∙_}
 use mathlib.Core.Bool.{Bool, true, false, cond}
 use mathlib.Core.List.{List, [], _∷_, _++_, map}
 use Prim.Native.Nat.{ℕ, zero, suc, _+_, _*_, _/_, _%_, _≤_, _<_}
@@ -7,12 +7,13 @@ use native.Mathlib.Omega.{arith}
 use lib.Dec.{eqb}
 use lib.ListN.{length, take, drop, getD}
 use Rattle.std.proofs.shelf.Lists.{getD-drop, length-drop, map-more, length-map, length-take}
+use Rattle.std.proofs.shelf.Tests.{eq-eqb, ne-eqb}
 use Rattle.std.proofs.shelf.Ways.{tells}
 use Rattle.streets.specs.Streets.{Leg}
 use Rattle.streets.specs.Meaning.{as-leg}
 use Rattle.streets.specs.declared.leg.Leg.{Leg as Leg-struct}
 use Rattle.wire.specs.Rows.{put, word}
-use Rattle.wire.specs.Format.{leg-row, leg-code, leg-at, legs-row, legs-in, Short}
+use Rattle.wire.specs.Format.{leg-row, leg-at, legs-row, legs-in, Short}
 use Rattle.wire.proofs.Puts.{put-then, put-same}
 
 pub length-legs-row : (ls : List Leg) → length (legs-row ls) ≡ 2 * length ls
@@ -31,7 +32,13 @@ legs-row-push [] l = refl
 legs-row-push (k ∷ ls) l = ap (λ r. leg-row k ++ r) (legs-row-push ls l)
 
 -- one leg more behind those that are written
-pub legs-more : {X : Type 0} (f : X → Leg) (xs : List X) (k : ℕ) (x : X) (part : List ℕ) {bs bs′ : List ℕ} → k < length xs → x ≡ getD xs k x → bs ≡ put part 0 (legs-row (map f (take k xs))) → bs′ ≡ put bs (2 * k) (leg-row (f x)) → bs′ ≡ put part 0 (legs-row (map f (take (k + 1) xs)))
+pub legs-more :
+    {X : Type 0} (f : X → Leg) (xs : List X) (k : ℕ) (x : X) (part : List ℕ) {bs bs′ : List ℕ} →
+    k < length xs →
+    x ≡ getD xs k x →
+    bs ≡ put part 0 (legs-row (map f (take k xs))) →
+    bs′ ≡ put bs (2 * k) (leg-row (f x)) →
+    bs′ ≡ put part 0 (legs-row (map f (take (k + 1) xs)))
 legs-more f xs k x part h at was puts =
     let m : map f (take (k + 1) xs) ≡ map f (take k xs) ++ f x ∷ [] = cc (map-more f xs k x h) in
     let n : 2 * k ≡ length (legs-row (map f (take k xs))) = simp (length-legs-row, length-map, length-take) (omega arith) in
@@ -60,7 +67,12 @@ legs-row-again (suc n) (x ∷ y ∷ bs) b h =
     rw e (ap (λ row. row ++ legs-row (legs-in n bs)) first ∙ ap (λ row. x ∷ y ∷ row) r)
 
 -- behind a count, bytes are as many legs
-pub legs-stay : (t n : ℕ) (base bs : List ℕ) → ((k : ℕ) → k < 5 + 2 * n → getD bs k 0 < 256) → 5 + 2 * n ≤ length base → bs ≡ put base 0 (t ∷ word n) → bs ≡ put base 0 (t ∷ (word (length (legs-in n (drop 5 base))) ++ legs-row (legs-in n (drop 5 base))))
+pub legs-stay :
+    (t n : ℕ) (base bs : List ℕ) →
+    ((k : ℕ) → k < 5 + 2 * n → getD bs k 0 < 256) →
+    5 + 2 * n ≤ length base →
+    bs ≡ put base 0 (t ∷ word n) →
+    bs ≡ put base 0 (t ∷ (word (length (legs-in n (drop 5 base))) ++ legs-row (legs-in n (drop 5 base))))
 legs-stay t n base bs b h was =
     let part : drop 5 bs ≡ drop 5 base = rw was refl in
     let long : length bs ≡ length base = rw was (simp length-drop (omega arith)) in
@@ -70,17 +82,20 @@ legs-stay t n base bs b h was =
     rw (length-legs-in n (drop 5 base), again) (put-then base (t ∷ word n) (take (2 * n) (drop 5 base)) 5 was same refl)
 
 -- a leg's two bytes as a leg are the leg
+half-again : (a : ℕ) (b : Bool) → (2 * a + cond b 1 0) / 2 ≡ a
+half-again a true = omega arith
+half-again a false = omega arith
+
+bit-again : (a : ℕ) (b : Bool) → eqb ((2 * a + cond b 1 0) % 2) 1 ≡ b
+bit-again a true = eq-eqb _ 1 (omega arith)
+bit-again a false = ne-eqb _ 1 (omega arith)
+
 leg-again : (a : ℕ) (b : Bool) (bs : List ℕ) → a < 32768 → leg-at (leg-row (record { along = a; back = b }) ++ bs) 0 ≡ record { along = a; back = b }
-leg-again a true bs h =
-    let c : (2 * a + 1) % 256 + (2 * a + 1) / 256 % 256 * 256 ≡ 2 * a + 1 = omega arith in
-    let half : (2 * a + 1) / 2 ≡ a = omega arith in
-    let rest : (2 * a + 1) % 2 ≡ 1 = omega arith in
-    rw (c, half, rest)
-leg-again a false bs h =
-    let c : (2 * a + 0) % 256 + (2 * a + 0) / 256 % 256 * 256 ≡ 2 * a + 0 = omega arith in
-    let half : (2 * a + 0) / 2 ≡ a = omega arith in
-    let rest : (2 * a + 0) % 2 ≡ 0 = omega arith in
-    rw (c, half, rest)
+leg-again a b bs h =
+    let c = 2 * a + cond b 1 0 in
+    let half = half-again a b in
+    let whole : c % 256 + c / 256 % 256 * 256 ≡ c = omega arith in
+    rw (whole, half, bit-again a b)
 
 pub legs-in-again : (ls : List Leg) (bs : List ℕ) → Short ls → legs-in (length ls) (legs-row ls ++ bs) ≡ ls
 unfolding legs-row legs-in

@@ -26,7 +26,12 @@ pub put-first : (bs : List ℕ) (b : ℕ) → 1 ≤ length bs → set bs 0 b ≡
 put-first (x ∷ xs) b h = refl
 put-first [] b h = absurd (omega arith)
 
-pub put-then : (base row more : List ℕ) (n : ℕ) {bs bs′ : List ℕ} → bs ≡ put base 0 row → bs′ ≡ put bs n more → n ≡ length row → bs′ ≡ put base 0 (row ++ more)
+pub put-then :
+    (base row more : List ℕ) (n : ℕ) {bs bs′ : List ℕ} →
+    bs ≡ put base 0 row →
+    bs′ ≡ put bs n more →
+    n ≡ length row →
+    bs′ ≡ put base 0 (row ++ more)
 put-then base row more n was puts e =
     let t = take-at row (drop (0 + length row) base) n (sym e) in let d = drop-at row (drop (0 + length row) base) n (sym e) in
     puts ∙ rw (was, t, ← drop-drop, d, drop-drop, append-assoc) (simp (length-append, add-assoc))
@@ -37,7 +42,12 @@ put-same bs n m h =
     let e : length (take m (drop n bs)) ≡ m = simp (length-take, length-drop) (omega arith) in
     rw (e, ← drop-drop, take-append-drop, take-append-drop)
 
-pub wholly : (fits : Bool) (row before after : List ℕ) (r : ℕ) → fits ≡ true → r ≡ length row → after ≡ put before 0 row → Written-if fits row before (Some r) after
+pub wholly :
+    (fits : Bool) (row before after : List ℕ) (r : ℕ) →
+    fits ≡ true →
+    r ≡ length row →
+    after ≡ put before 0 row →
+    Written-if fits row before (Some r) after
 wholly fits row before after r t e w = record { count = rw (t, e); bytes = rw t w }
 
 pub unwritten : (fits : Bool) (row before : List ℕ) → fits ≡ false → Written-if fits row before None before
@@ -56,7 +66,14 @@ put-past bs row i n h l =
     rw (← m, ← drop-drop, ← append-assoc, at, drop-drop)
 
 -- a row that is written over a part of itself is written over what was there before
-pub written-over : (fits : Bool) (row over base bs bs′ : List ℕ) (i : ℕ) (r : Option ℕ) → fits ≡ true → i + length over ≤ length row → length row ≤ length base → bs ≡ put base i over → Written row bs r bs′ → Written-if fits row base r bs′
+pub written-over :
+    (fits : Bool) (row over base bs bs′ : List ℕ) (i : ℕ) (r : Option ℕ) →
+    fits ≡ true →
+    i + length over ≤ length row →
+    length row ≤ length base →
+    bs ≡ put base i over →
+    Written row bs r bs′ →
+    Written-if fits row base r bs′
 written-over fits row over base bs bs′ i r t h l was w =
     let long : length bs ≡ length base = rw was (simp (length-append, length-take, length-drop) (omega arith)) in
     let fit = le-leb (length row) (length bs) (omega arith) in

@@ -3,21 +3,18 @@ use mathlib.Core.Path.{_≡_, refl, sym, ap, _∙_}
 use mathlib.Core.Bool.{Bool, true, false, cond, _&&_}
 use mathlib.Core.List.{List, [], _∷_, _++_}
 use mathlib.Core.Logic.{⊎-elim}
-use Prim.Native.Nat.{ℕ, suc, min, _+_, _*_, _≤_, _<_}
+use Prim.Native.Nat.{ℕ, suc, min, _+_, _*_, _≤_}
 use native.Mathlib.Omega.{arith}
 use lib.Dec.{eqb, ltb}
-use lib.ListN.{length, getD, take, drop}
+use lib.ListN.{length, drop}
 use Rattle.std.proofs.shelf.Tests.{cases-bool, eq-eqb, eqb-true, ltb-true, and-parts}
-use Rattle.std.proofs.shelf.Ways.{tells}
 use Rattle.std.proofs.shelf.Lists.{nil-from-length, append-nil, length-append, length-drop, getD-drop, drop-drop, drop-all, take-append-drop}
 use Rattle.std.specs.declared.result.Result.{Result}
 use Rattle.std.specs.declared.result.Result.the-variants.{Ok, Err}
 use Rattle.streets.specs.Streets.{Leg}
-use Rattle.streets.specs.Calls.{Call, opens, closes, odd, round, garbled, Answer, refused, number, shortest, some-round, never}
-use Rattle.streets.specs.Promise.{readable}
+use Rattle.streets.specs.Calls.{refused, number, shortest, some-round, never}
 use Rattle.wire.specs.Rows.{Bytes, word, word-at}
-use Rattle.wire.specs.Format.{call-row, call-in, fitting, legs-row, legs-in, answer-row, answer-in}
-use Rattle.wire.specs.Meaning.{as-call}
+use Rattle.wire.specs.Format.{call-row, fitting, legs-row, legs-in, answer-row}
 use Rattle.wire.specs.Laws.{Call-again, Call-row-again, One-call-row, First-row, Answer-again, Answer-row-again, Room}
 use Rattle.wire.specs.declared.call.Call.the-variants.{Open, Close, Odd, Round}
 use Rattle.wire.proofs.Words.{word-again, word-then, word-last, word-behind}
@@ -41,17 +38,26 @@ first-row-is (Round c) rest = refl
 refuted : {A B : Type 0} (p : ℕ) (x : A) → Err p ≡ Ok x → B
 refuted p x e = let z : _≡_ {A = ℕ} 0 1 = cc in absurd (omega arith)
 
--- a row that is tried for a first byte and a size: it is what was read written, or the next are tried
+by-test : {P : Type 0} (b : Bool) → (b ≡ true → P) → (b ≡ false → P) → P
+by-test b here there = ⊎-elim here there (cases-bool b)
+
+fitted : {A : Type 0} (n : ℕ) (bs : List ℕ) (a x : A) → fitting n bs a ≡ Ok x → (length bs ≡ n) × (a ≡ x)
+fitted n bs a x e =
+    by-test (eqb (length bs) n)
+    (λ t. let same = rw t at e in (eqb-true (length bs) n t, cc))
+    (λ t. refuted (1 + min n (length bs)) x (rw t at e))
+
+-- a row that is tried for a first byte and a size: it is what was read, written, or the next are tried
 module _ {A : Type 0} (row : A → List ℕ) (k j n : ℕ) (bs : List ℕ) (a x : A) (next : Result A ℕ) where
-  pub tried : cond (eqb k j) (fitting n bs a) next ≡ Ok x → (length bs ≡ n → row a ≡ j ∷ bs) → (next ≡ Ok x → row x ≡ k ∷ bs) → row x ≡ k ∷ bs
+  pub tried :
+      cond (eqb k j) (fitting n bs a) next ≡ Ok x →
+      (length bs ≡ n → row a ≡ j ∷ bs) →
+      (next ≡ Ok x → row x ≡ k ∷ bs) →
+      row x ≡ k ∷ bs
   tried e here there =
-      ⊎-elim (λ (t : eqb k j ≡ true).
-      ⊎-elim (λ (s : eqb (length bs) n ≡ true).
-      let h = here (eqb-true (length bs) n s) in let i = eqb-true k j t in let same = rw (t, s) at e in cc)
-      (λ (s : eqb (length bs) n ≡ false). refuted (1 + min n (length bs)) x (rw (t, s) at e))
-      (cases-bool (eqb (length bs) n)))
-      (λ (t : eqb k j ≡ false). there (rw t at e))
-      (cases-bool (eqb k j))
+      by-test (eqb k j)
+      (λ t. let f = fitted n bs a x (rw t at e) in let h = here (f .0) in let same = eqb-true k j t in cc)
+      (λ t. there (rw t at e))
 
 pub call-row-again : Call-row-again
 call-row-again [] c b e = refuted 0 c e
@@ -73,7 +79,12 @@ length-shortest ls = eq-eqb _ (4 + 2 * length ls) (omega (arith, length-legs-row
 length-some-round : (ls : List Leg) (low : ℕ) → eqb (length (word (length ls) ++ (legs-row ls ++ word low))) (8 + 2 * length ls) ≡ true
 length-some-round ls low = eq-eqb _ (8 + 2 * length ls) (omega (arith, length-legs-row ls, length-append (legs-row ls) (word low)))
 
-legs-behind : (bs rest : List ℕ) → Bytes bs → 4 + 2 * word-at bs 0 ≤ length bs → rest ≡ drop (4 + 2 * word-at bs 0) bs → word (length (legs-in (word-at bs 0) (drop 4 bs))) ++ (legs-row (legs-in (word-at bs 0) (drop 4 bs)) ++ rest) ≡ bs
+legs-behind :
+    (bs rest : List ℕ) →
+    Bytes bs →
+    4 + 2 * word-at bs 0 ≤ length bs →
+    rest ≡ drop (4 + 2 * word-at bs 0) bs →
+    word (length (legs-in (word-at bs 0) (drop 4 bs))) ++ (legs-row (legs-in (word-at bs 0) (drop 4 bs)) ++ rest) ≡ bs
 legs-behind bs rest b h e =
     let n = word-at bs 0 in
     let legs = legs-row-again n (drop 4 bs) (λ k l. rw getD-drop (b (4 + k))) (simp length-drop (omega arith)) in

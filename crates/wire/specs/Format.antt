@@ -1,5 +1,5 @@
 -- Calls and answers as rows of bytes.
-use mathlib.Core.Bool.{Bool, true, false, cond}
+use mathlib.Core.Bool.{cond}
 use mathlib.Core.List.{List, [], _∷_, _++_}
 use Prim.Native.Nat.{ℕ, zero, suc, min, _+_, _*_, _/_, _%_, _<_}
 use lib.Dec.{eqb}
@@ -31,11 +31,6 @@ call-in (k ∷ bs) =
     (cond (eqb k 2) (fitting 0 bs odd)
     (cond (eqb k 3) (fitting 4 bs (round (word-at bs 0)))
     (Err 0))))
-
--- the call that a row stands for, whatever it holds
-abbrev pub called : Result Call ℕ → Call
-called (Ok c) = c
-called (Err p) = garbled p
 
 -- the row of the first of calls that stand one after the other, as far as there are bytes of it
 abbrev pub fields-size : ℕ → ℕ

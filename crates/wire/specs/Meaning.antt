@@ -1,13 +1,17 @@
 -- The calls and answers that the code's enums stand for.
+use mathlib.Core.Bool.{_&&_}
 use mathlib.Core.List.{List}
 use Prim.Native.Nat.{ℕ, _+_, _*_}
+use lib.ListN.{length}
 use Rattle.std.specs.declared.result.Result.{Result}
 use Rattle.std.specs.declared.result.Result.the-variants.{Ok, Err}
 use Rattle.std.specs.declared.option.Option.{Option}
 use Rattle.std.specs.declared.option.Option.the-variants.{Some, None}
 use Rattle.streets.specs.Streets.{Leg}
 use Rattle.streets.specs.Calls.{Call, opens, closes, odd, round, Answer, refused, number, shortest, some-round, never}
-use Rattle.wire.specs.Format.{legs-in}
+use Rattle.streets.specs.Promise.{field}
+use Rattle.wire.specs.Rows.{room, Written-if}
+use Rattle.wire.specs.Format.{legs-in, answer-row}
 use Rattle.wire.specs.declared.answer.Answer.{Answer as Answer-enum}
 use Rattle.wire.specs.declared.answer.Answer.the-variants.{Refused, Number, Shortest, SomeRound, Never}
 use Rattle.wire.specs.declared.call.Call.{Call as Call-enum}
@@ -40,7 +44,12 @@ abbrev pub as-round : List Leg → Option ℕ → Answer
 as-round ls None = shortest ls
 as-round ls (Some low) = some-round ls low
 
--- the same by how many legs it has
+-- a round's legs and the answer around them are written, if a count of four bytes can say how many legs there are
+abbrev pub Round-written : List Leg → Option ℕ → List ℕ → Option ℕ → List ℕ → Type 0
+Round-written ls low before r after =
+    Written-if (field (length ls) && room (answer-row (as-round ls low)) before) (answer-row (as-round ls low)) before r after
+
+-- an answered round by how many legs it has
 abbrev pub counted : ℕ → Option ℕ → Answer-enum
 counted n None = Shortest n
 counted n (Some low) = SomeRound n low

@@ -1,16 +1,15 @@
 // Answers as rows of bytes.
 ghost use mathlib.Core.Path.{_≡_};
-ghost use mathlib.Core.Bool.{cond, _&&_};
-ghost use mathlib.Core.List.{List, map};
-ghost use Prim.Native.Nat.{ℕ, _+_};
+ghost use mathlib.Core.Bool.{cond};
+ghost use mathlib.Core.List.{map};
+ghost use Prim.Native.Nat.{_+_};
 ghost use lib.Dec.{leb};
 ghost use lib.ListN.{length, drop};
 ghost use Rattle.std.specs.declared.result.Result.the-variants.{Ok, Err};
 ghost use Rattle.streets.specs.Meaning.{as-leg};
-ghost use Rattle.streets.specs.Promise.{field};
-ghost use Rattle.wire.specs.Rows.{Written, Written-if, room, word-at};
+ghost use Rattle.wire.specs.Rows.{Written, word-at};
 ghost use Rattle.wire.specs.Format.{answer-row, answer-in, legs-at};
-ghost use Rattle.wire.specs.Meaning.{as-answer, answer-size, as-round, counted, read-as};
+ghost use Rattle.wire.specs.Meaning.{as-answer, answer-size, counted, Round-written, read-as};
 use super::legs::write_legs;
 use super::rows::exactly;
 use super::rows::put_word;
@@ -31,7 +30,7 @@ pub enum Answer {
 }
 
 impl Answer {
-    pub fn size(self) -> usize
+    fn size(self) -> usize
         ensures { λ r. ⌜ r ≡ answer-size self ⌝ }
     {
         match self {
@@ -88,7 +87,7 @@ fn counting(legs: u32, low: Option<u32>) -> Answer
 
 // Writes a round's legs into their part, and the answer around them.
 pub fn write_round(legs: &[Leg], low: Option<u32>, bytes: &mut [u8]) -> Option<usize>
-    ensures { λ r. ⌜ Written-if (field (length (now (legs .entry))) && room (answer-row (as-round (map as-leg (now (legs .entry))) low)) (now (bytes .entry))) (answer-row (as-round (map as-leg (now (legs .entry))) low)) (now (bytes .entry)) r (now (bytes .exit)) ⌝ }
+    ensures { λ r. ⌜ Round-written (map as-leg (now (legs .entry))) low (now (bytes .entry)) r (now (bytes .exit)) ⌝ }
 {
     let Ok(count) = u32::try_from(legs.len()) else {
         return None;

@@ -68,7 +68,7 @@ pub fn first_row(calls: &[u8]) -> &[u8]
 }
 
 impl Call {
-    pub fn size(self) -> usize
+    fn size(self) -> usize
         ensures { λ r. ⌜ r ≡ length (call-row (as-call self)) ⌝ }
     {
         match self {

@@ -10,6 +10,7 @@ ghost use Rattle.std.specs.declared.option.Option.the-variants.{Some, None};
 ghost use Rattle.streets.specs.Meaning.{as-leg};
 ghost use Rattle.wire.specs.Rows.{put};
 ghost use Rattle.wire.specs.Format.{leg-at, leg-row, legs-row};
+use super::rows::put_row;
 use streets::Leg;
 
 // The leg at place `k`, if the part reaches so far.
@@ -35,7 +36,7 @@ pub fn write_leg(part: &mut [u8], k: usize, leg: Leg) -> bool
         return false;
     }
     let code = 2 * leg.along + leg.back as u16;
-    part[2 * k..2 * k + 2].copy_from_slice(&code.to_le_bytes());
+    put_row(part, 2 * k, &code.to_le_bytes());
     true
 }
 

@@ -12,11 +12,19 @@ pub fn read_word(bytes: &[u8], at: usize) -> u32
     u32::from_le_bytes([bytes[at], bytes[at + 1], bytes[at + 2], bytes[at + 3]])
 }
 
+// Writes a row over the bytes from a place on.
+pub fn put_row(bytes: &mut [u8], at: usize, row: &[u8])
+    requires { ⌜ at + length (now row) ≤ length (now bytes) ⌝ }
+    ensures { λ _. ⌜ now (bytes .exit) ≡ put (now (bytes .entry)) at (now (row .entry)) ⌝ }
+{
+    bytes[at..at + row.len()].copy_from_slice(row);
+}
+
 pub fn put_word(bytes: &mut [u8], at: usize, n: u32)
     requires { ⌜ at + 4 ≤ length (now bytes) ⌝ }
     ensures { λ _. ⌜ now (bytes .exit) ≡ put (now (bytes .entry)) at (word n) ⌝ }
 {
-    bytes[at..at + 4].copy_from_slice(&n.to_le_bytes());
+    put_row(bytes, at, &n.to_le_bytes());
 }
 
 // Just `size` bytes follow a row's first one, or the place of the first that is missing or too many.

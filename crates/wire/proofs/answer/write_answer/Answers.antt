@@ -1,4 +1,3 @@
-use mathlib.Core.Path.{_∙_, sym}
 use native.Mathlib.Omega.{arith}
 use lib.ListN.{drop}
 use Rattle.std.proofs.shelf.Tests.{le-leb, lt-leb}

@@ -1,20 +1,24 @@
-use mathlib.Core.Path.{_≡_, sym, ap, _∙_}
-use mathlib.Core.Bool.{true, false}
+use mathlib.Core.Path.{_≡_}
 use mathlib.Core.List.{map}
-use Prim.Native.Nat.{_+_, _-_, _*_, _≤_, _<_}
+use Prim.Native.Nat.{_≤_}
 use native.Mathlib.Omega.{arith}
 use borrow.Author.Needs.{needs}
-use borrow.Rule.Slice.PartMut.{putMid}
-use lib.ListN.{length, take, drop}
+use lib.ListN.{length}
 use Rattle.std.proofs.shelf.Lists.{length-map}
 use Rattle.std.proofs.shelf.Ways.{tells}
 use Rattle.streets.specs.Meaning.{as-leg}
 use Rattle.wire.specs.Format.{answer-row}
-use Rattle.wire.specs.Meaning.{as-round, answer-size, counted}
+use Rattle.wire.specs.Meaning.{as-round}
 use Rattle.wire.proofs.Puts.{unwritten}
 use Rattle.wire.proofs.Pairs.{short-legs}
 use Rattle.wire.proofs.Rounds.{round-written, length-round, size-counted, legs-handed-on}
 use Rattle.wire.proofs.answer.write_round.Needs as need
+
+pub returns-in-rest : need.returns-in-rest
+returns-in-rest c =
+    let ls = map as-leg (c .args .legs .now) in
+    let many : 4294967296 ≤ length ls = simp length-map (search needs) in
+    unwritten _ (answer-row (as-round ls (c .args .low))) (c .args .bytes .now) (grind (arith, tells))
 
 pub returns-then-bytes-size : need.returns-then-bytes-size
 returns-then-bytes-size c =
