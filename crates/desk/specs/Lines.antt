@@ -1,4 +1,4 @@
--- What is printed for a call as it was read, and for a refusal.
+-- The text of a call, and of a refusal.
 use mathlib.Core.List.{List, _++_}
 use Prim.Native.Nat.{ℕ}
 use lib.Chars.{codes}

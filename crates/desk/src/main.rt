@@ -1,8 +1,7 @@
-// Reads a file of calls, one after the other, and prints a line for each.
+// Reads a file of calls and prints a line for each.
 mod line;
 
-use line::call_line;
-use line::refused_line;
+use line::line;
 use std::env;
 use std::error::AnyError;
 use std::fs;
@@ -10,9 +9,6 @@ use std::io;
 use std::io::Read;
 use wire::first_row;
 use wire::read_call;
-
-// The refusal of a call that can't be read.
-const GARBLED: u32 = 1;
 
 // The calls in the file that is named, or on standard input where none is.
 fn input(rt: &LibcRuntime) -> Result<Vec<u8>, AnyError> {
@@ -31,14 +27,16 @@ fn input(rt: &LibcRuntime) -> Result<Vec<u8>, AnyError> {
     }
 }
 
-// A row that can't be read is the last one: nothing says where the next call would begin.
+// Stops at the first unreadable row: nothing says where the next one begins.
 fn print_lines(rt: &LibcRuntime, calls: &[u8]) -> io::Result<()> {
     let mut rest = calls;
     while !rest.is_empty() {
         let row = first_row(rest);
-        match read_call(row) {
-            Ok(call) => rt.println(call_line(rt.alloc(), call)?)?,
-            Err(place) => return rt.println(refused_line(rt.alloc(), GARBLED, place)?),
+        let read = read_call(row);
+        let last = read.is_err();
+        rt.println(line(rt.alloc(), read)?)?;
+        if last {
+            break;
         }
         rest = &rest[row.len()..];
     }

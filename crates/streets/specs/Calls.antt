@@ -1,4 +1,4 @@
--- A town whose streets come and go: its calls, what each is checked for and changes, and what may be answered.
+-- The calls of a town: how each is checked, what it changes, and which answers are right.
 use mathlib.Core.Path.{_≡_}
 use mathlib.Core.Bool.{true, false, _&&_}
 use mathlib.Core.List.{List, [], _∷_, _++_}
@@ -9,25 +9,25 @@ use Rattle.streets.specs.Streets.{Street, Leg, joining, is-round, how-long, od
 use Rattle.streets.specs.Protocol.{Check, asking, Protocol}
 
 pub data Call : Type 0 where
-  opens : ℕ → ℕ → ℕ → Call  -- a street: two corners, how long
-  closes : ℕ → Call  -- the street with this number goes, and those after it have each one number less
-  odd : Call  -- how many corners are odd
-  round : ℕ → Call  -- a shortest round from a corner
-  garbled : ℕ → Call  -- what can't be read, with the place of the first byte that doesn't fit
+  opens : ℕ → ℕ → ℕ → Call  -- a new street: its ends and its length
+  closes : ℕ → Call  -- remove the i-th street; later ones move down by one
+  odd : Call  -- ask for the number of odd corners
+  round : ℕ → Call  -- ask for a round from this corner
+  garbled : ℕ → Call  -- an unreadable row, with the index of the byte at which reading failed
 
 pub data Answer : Type 0 where
-  refused : ℕ → ℕ → Answer  -- a number and a place
+  refused : ℕ → ℕ → Answer  -- the refusal's number, and its place
   number : ℕ → Answer
   shortest : List Leg → Answer
-  some-round : List Leg → ℕ → Answer  -- with a length below which there is no round
+  some-round : List Leg → ℕ → Answer  -- with a lower bound on the length of every round
   never : Answer
 
--- how many corners there are, and how many streets there may be
+-- the corners are those below `corners`; `streets` bounds the number of streets
 pub record Limits : Type 0 where
   pub corners : ℕ
   pub streets : ℕ
 
--- up to so many odd corners the round that is answered is a shortest one
+-- with more odd corners than this, the round need not be a shortest one
 abbrev pub most-odd : ℕ
 most-odd = 16
 
@@ -48,12 +48,12 @@ changed ss odd = ss
 changed ss (round c) = ss
 changed ss (garbled p) = ss
 
--- a round from a corner that no round from it is shorter than
+-- ls is a round from c, and no round from c is shorter
 pub record Shortest (ss : List Street) (c : ℕ) (ls : List Leg) : Type 0 where
   pub goes-all : is-round ss c ls ≡ true
   pub least : (ms : List Leg) → is-round ss c ms ≡ true → how-long ss ls ≤ how-long ss ms
 
--- a round, and a length that none is shorter than and that is at least half of this one's
+-- ls is a round from c, and low a lower bound for all of them, within a factor of two
 pub record Bounded (ss : List Street) (c : ℕ) (ls : List Leg) (low : ℕ) : Type 0 where
   pub goes-all : is-round ss c ls ≡ true
   pub none-below : (ms : List Leg) → is-round ss c ms ≡ true → low ≤ how-long ss ms
@@ -70,6 +70,6 @@ may-say l ss (round c) (refused k p) = ⊥
 may-say l ss (round c) (number n) = ⊥
 may-say l ss (garbled p) x = ⊥
 
--- the town's protocol: its state is the list of its streets
+-- a town as a protocol, with the list of streets as its state
 abbrev pub town : Limits → Protocol (List Street) Call Answer
 town l = record { checks = checks l; changed = changed; may-say = may-say l; refused = refused }

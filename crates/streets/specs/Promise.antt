@@ -1,4 +1,4 @@
--- What is promised of the desk and of rounds. Each is a statement, a type whose proof is owed.
+-- Statements about desks and rounds, as types: a proof is a term of the type.
 use mathlib.Core.Path.{_≡_}
 use mathlib.Core.Bool.{Bool, true, cond, _&&_}
 use mathlib.Core.List.{List, [], _∷_, _++_}
@@ -9,7 +9,7 @@ use Rattle.streets.specs.Streets.{Street, street, Leg, goes, how-long, times, 
 use Rattle.streets.specs.Protocol.{Desk, turned, ran, all-right, left-by}
 use Rattle.streets.specs.Calls.{Call, opens, closes, odd, round, garbled, Answer, Limits, town, Shortest}
 
--- calls that fields of four bytes can carry
+-- every number of the call fits a field of four bytes
 abbrev pub field : ℕ → Bool
 field n = ltb n 4294967296
 
@@ -30,11 +30,11 @@ pub record Good-limits (l : Limits) : Type 0 where
   pub few-streets : l .streets ≤ 1024
 
 module _ {Memory : Type 0} where
-  -- the main promise: whatever calls come, each answer is right for the streets that the calls so far have left
+  -- the main promise: no sequence of calls gets a wrong answer, judged by the streets then open
   abbrev pub Right : Desk Limits Memory Call Answer → Type 0
   Right d = (l : Limits) (cs : List Call) → Good-limits l → all-readable cs ≡ true → all-right (town l) d (d .opened l) [] cs
 
-  -- a call that is turned away leaves memory as it was
+  -- a refused call leaves memory equal to what it was
   abbrev pub Refusal-keeps : Desk Limits Memory Call Answer → Type 0
   Refusal-keeps d =
       (l : Limits) (cs : List Call) (c : Call) →
@@ -43,21 +43,21 @@ module _ {Memory : Type 0} where
       0 < turned (town l) (ran (town l) [] cs) c →
       d .next (left-by d (d .opened l) cs) c ≡ left-by d (d .opened l) cs
 
--- all streets have their corners below n
+-- every end of a street is below n
 unfoldable pub in-town : ℕ → List Street → Bool
 in-town n [] = true
 in-town n (s ∷ ss) = (ltb (s .one) n && ltb (s .other) n) && in-town n ss
 
--- every street can be reached from a corner
+-- for each street there is a walk from c that reaches it
 abbrev pub Joined : List Street → ℕ → Type 0
 Joined ss c = (i : ℕ) → i < length ss → (ls : List Leg) × (goes ss c ls (street ss i .one) ≡ true)
 
--- each of the first n streets is gone just once
+-- each street below n has exactly one leg
 unfoldable pub once-each : List Leg → ℕ → Bool
 once-each ls zero = true
 once-each ls (suc n) = eqb (times ls n) 1 && once-each ls n
 
--- if no corner is odd and all streets can be reached there is a round through each just once, in a town of any size; and only then
+-- Euler: connected and with all degrees even, a town has a round that uses each street once; and such a round makes all degrees even
 abbrev pub Once-each : Type 0
 Once-each =
     (ss : List Street) (n c : ℕ) →
@@ -66,7 +66,7 @@ Once-each =
     (odd-corners ss n ≡ 0 → Joined ss c → (ls : List Leg) × (is-round ss c ls ≡ true) × (once-each ls (length ss) ≡ true))
     × ((ls : List Leg) → is-round ss c ls ≡ true → once-each ls (length ss) ≡ true → odd-corners ss n ≡ 0)
 
--- there is a round just if all streets can be reached, and then one at most twice as long as all streets
+-- a round exists if and only if every street is connected to c, and then one of at most twice the total length
 abbrev pub A-round : Type 0
 A-round =
     (ss : List Street) (c : ℕ) →
@@ -77,11 +77,11 @@ unfoldable pub positive : List Street → Bool
 positive [] = true
 positive (s ∷ ss) = ltb 0 (s .long) && positive ss
 
--- a shortest round goes through no street more than twice
+-- where lengths are positive, no shortest round uses a street more than twice
 abbrev pub Never-thrice : Type 0
 Never-thrice = (ss : List Street) (c i : ℕ) (ls : List Leg) → positive ss ≡ true → Shortest ss c ls → times ls i ≤ 2
 
--- from every corner with a street a shortest round is as long
+-- the length of a shortest round does not depend on where it starts
 abbrev pub From-anywhere : Type 0
 From-anywhere =
     (ss : List Street) (c d : ℕ) (ls ms : List Leg) →
@@ -91,12 +91,12 @@ From-anywhere =
     0 < ends-at ss d →
     how-long ss ls ≡ how-long ss ms
 
--- the streets, of those with the numbers i and up, that a walk goes through just twice
+-- of ss, numbered from i on, the streets with exactly two legs
 unfoldable pub twice-gone : List Street → List Leg → ℕ → List Street
 twice-gone [] ls i = []
 twice-gone (s ∷ ss) ls i = cond (eqb (times ls i) 2) (s ∷ twice-gone ss ls (suc i)) (twice-gone ss ls (suc i))
 
--- what a shortest round goes through twice has an odd number of ends just at odd corners, and the round is as long as all streets and these again
+-- the streets that a shortest round repeats are a T-join of the odd corners, and its length is the total and theirs
 abbrev pub Joins-odd : Type 0
 Joins-odd =
     (ss : List Street) (c k : ℕ) (ls : List Leg) →
@@ -104,6 +104,6 @@ Joins-odd =
     Shortest ss c ls →
     (ends-at (twice-gone ss ls 0) k % 2 ≡ ends-at ss k % 2) × (how-long ss ls ≡ all-long ss + all-long (twice-gone ss ls 0))
 
--- odd corners come in pairs
+-- the number of odd corners is even (the handshaking lemma)
 abbrev pub In-pairs : Type 0
 In-pairs = (ss : List Street) (n : ℕ) → in-town n ss ≡ true → odd-corners ss n % 2 ≡ 0

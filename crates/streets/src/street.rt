@@ -3,7 +3,7 @@ ghost use mathlib.Core.Path.{_≡_};
 ghost use Rattle.streets.specs.Streets.{joining};
 ghost use Rattle.streets.specs.Meaning.{as-street};
 
-// Joins two corners, perhaps one with itself.
+// Its two ends may be one corner.
 #[derive(Clone, Copy)]
 pub struct Street {
     pub one: u16,

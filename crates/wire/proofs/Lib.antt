@@ -3,3 +3,4 @@ pub mod Pairs
 pub mod Rounds
 pub mod Words
 pub mod Reading
+pub mod Room

@@ -15,7 +15,7 @@ use Rattle.streets.specs.Streets.{Leg}
 use Rattle.streets.specs.Calls.{refused, number, shortest, some-round, never}
 use Rattle.wire.specs.Rows.{Bytes, word, word-at}
 use Rattle.wire.specs.Format.{call-row, fitting, legs-row, legs-in, answer-row}
-use Rattle.wire.specs.Laws.{Call-again, Call-row-again, One-call-row, First-row, Answer-again, Answer-row-again, Room}
+use Rattle.wire.specs.Laws.{Call-again, Call-row-again, One-call-row, First-row, Answer-again, Answer-row-again}
 use Rattle.wire.specs.declared.call.Call.the-variants.{Open, Close, Odd, Round}
 use Rattle.wire.proofs.Words.{word-again, word-then, word-last, word-behind}
 use Rattle.wire.proofs.Pairs.{length-legs-row, length-legs-in, legs-row-again, legs-in-again}
@@ -112,10 +112,3 @@ answer-row-again (k ∷ bs) a b e =
     (λ e. tried answer-row k 3 (8 + 2 * word-at bs 0) bs _ a _ e (λ n. ap (λ row. 3 ∷ row) (legs-behind bs _ r (omega arith) (word-last bs (4 + 2 * word-at bs 0) r (omega arith))))
     (λ e. tried answer-row k 4 0 bs _ a _ e (λ n. ap (λ row. 4 ∷ row) (sym (nil-from-length bs n)))
     (refuted 0 a)))))
-
-pub room : Room
-room (refused k p) n h = omega arith
-room (number m) n h = omega arith
-room (shortest ls) n h = omega (arith, length-legs-row ls)
-room (some-round ls low) n h = omega (arith, length-legs-row ls, length-append (legs-row ls) (word low))
-room never n h = omega arith

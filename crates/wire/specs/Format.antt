@@ -3,19 +3,19 @@ use mathlib.Core.Bool.{cond}
 use mathlib.Core.List.{List, [], _∷_, _++_}
 use Prim.Native.Nat.{ℕ, zero, suc, min, _+_, _*_, _/_, _%_, _<_}
 use lib.Dec.{eqb}
-use lib.ListN.{length, getD, take, drop}
+use lib.ListN.{length, take, drop}
 use Rattle.std.specs.declared.result.Result.{Result}
 use Rattle.std.specs.declared.result.Result.the-variants.{Ok, Err}
 use Rattle.std.specs.shelf.Lists.{All}
 use Rattle.streets.specs.Streets.{Leg}
 use Rattle.streets.specs.Calls.{Call, opens, closes, odd, round, garbled, Answer, refused, number, shortest, some-round, never}
-use Rattle.wire.specs.Rows.{word, word-at}
+use Rattle.wire.specs.Rows.{word, word-at, pair-at}
 
--- what a row reads as, if just n bytes follow its first one; else the place of the first byte that is missing or too many
+-- what was read, if exactly n bytes follow the first one; else the index of the byte that is missing or too many
 abbrev pub fitting : {A : Type 0} → ℕ → List ℕ → A → Result A ℕ
 fitting n bs a = cond (eqb (length bs) n) (Ok a) (Err (1 + min n (length bs)))
 
--- a call: its number, and its fields
+-- a call's number and its fields; `garbled` has no row, and the empty list stands for it
 abbrev pub call-row : Call → List ℕ
 call-row (opens a b n) = 0 ∷ (word a ++ (word b ++ word n))
 call-row (closes i) = 1 ∷ word i
@@ -32,7 +32,12 @@ call-in (k ∷ bs) =
     (cond (eqb k 3) (fitting 4 bs (round (word-at bs 0)))
     (Err 0))))
 
--- the row of the first of calls that stand one after the other, as far as there are bytes of it
+-- the call that any row stands for
+abbrev pub called : Result Call ℕ → Call
+called (Ok c) = c
+called (Err p) = garbled p
+
+-- the row of the first call of a sequence, cut short where the bytes end
 abbrev pub fields-size : ℕ → ℕ
 fields-size k = cond (eqb k 0) 12 (cond (eqb k 1) 4 (cond (eqb k 3) 4 0))
 
@@ -40,11 +45,11 @@ abbrev pub first-row : List ℕ → List ℕ
 first-row [] = []
 first-row (k ∷ bs) = k ∷ take (fields-size k) bs
 
--- a leg: the street times 2, and 1 more if it is gone back, in two bytes
+-- a leg as a number of two bytes: its street doubled, plus 1 if it is gone from its other end to its first
 abbrev pub leg-code : Leg → ℕ
 leg-code l = 2 * l .along + cond (l .back) 1 0
 
--- so that two bytes hold it, a leg's street has a number of 15 bits
+-- the legs that two bytes can hold
 abbrev pub Short : List Leg → Type 0
 Short ls = All (λ l. l .along < 32768) ls
 
@@ -52,19 +57,18 @@ abbrev pub leg-row : Leg → List ℕ
 leg-row l = leg-code l % 256 ∷ leg-code l / 256 % 256 ∷ []
 
 abbrev pub leg-at : List ℕ → ℕ → Leg
-leg-at bs i =
-    record { along = (getD bs i 0 + getD bs (i + 1) 0 * 256) / 2; back = eqb ((getD bs i 0 + getD bs (i + 1) 0 * 256) % 2) 1 }
+leg-at bs i = record { along = pair-at bs i / 2; back = eqb (pair-at bs i % 2) 1 }
 
 unfoldable pub legs-row : List Leg → List ℕ
 legs-row [] = []
 legs-row (l ∷ ls) = leg-row l ++ legs-row ls
 
--- so many legs, from the front of bytes on
+-- the first n legs that the bytes hold
 unfoldable pub legs-in : ℕ → List ℕ → List Leg
 legs-in zero bs = []
 legs-in (suc n) bs = leg-at bs 0 ∷ legs-in n (drop 2 bs)
 
--- an answer: its number, and its numbers; legs come after their count, at a place of their own
+-- an answer's number and its fields; where there are legs they begin at `legs-at`, after their count
 abbrev pub legs-at : ℕ
 legs-at = 5
 

@@ -23,7 +23,7 @@ as-call (Close i) = closes i
 as-call Odd = odd
 as-call (Round c) = round c
 
--- an answer whose legs stand in these bytes
+-- an answer whose legs are in these bytes
 abbrev pub as-answer : List ℕ → Answer-enum → Answer
 as-answer part (Refused k p) = refused k p
 as-answer part (Number n) = number n
@@ -31,7 +31,7 @@ as-answer part (Shortest n) = shortest (legs-in n part)
 as-answer part (SomeRound n low) = some-round (legs-in n part) low
 as-answer part Never = never
 
--- how many bytes it takes
+-- the length of its row
 abbrev pub answer-size : Answer-enum → ℕ
 answer-size (Refused k p) = 9
 answer-size (Number n) = 5
@@ -39,22 +39,22 @@ answer-size (Shortest n) = 5 + 2 * n
 answer-size (SomeRound n low) = 9 + 2 * n
 answer-size Never = 1
 
--- a round that is answered as a shortest one, or with a length below which there is none
+-- the answer of a round: as a shortest one, or with a lower bound
 abbrev pub as-round : List Leg → Option ℕ → Answer
 as-round ls None = shortest ls
 as-round ls (Some low) = some-round ls low
 
--- a round's legs and the answer around them are written, if a count of four bytes can say how many legs there are
+-- that answer is written with its legs, if their count fits four bytes
 abbrev pub Round-written : List Leg → Option ℕ → List ℕ → Option ℕ → List ℕ → Type 0
 Round-written ls low before r after =
     Written-if (field (length ls) && room (answer-row (as-round ls low)) before) (answer-row (as-round ls low)) before r after
 
--- an answered round by how many legs it has
+-- the same answer by its count of legs
 abbrev pub counted : ℕ → Option ℕ → Answer-enum
 counted n None = Shortest n
 counted n (Some low) = SomeRound n low
 
--- what was read, by what it stands for, or the place where reading stopped
+-- the meaning of what was read, or the place at which reading failed
 abbrev pub read-as : {A B : Type 0} → (A → B) → Result A ℕ → Result B ℕ
 read-as f (Ok a) = Ok (f a)
 read-as f (Err p) = Err p

@@ -16,10 +16,10 @@ use super::rows::put_word;
 use super::rows::read_word;
 use streets::Leg;
 
-// Where the legs stand in an answer that has some.
+// Where an answer's legs begin.
 pub const LEGS_AT: usize = 5;
 
-// An answer by its numbers. Of legs it has their count: they stand in the answer's bytes, from LEGS_AT on.
+// An answer without its legs: it has their count, and they stay in the answer's bytes, from LEGS_AT on.
 #[derive(Clone, Copy, PartialEq, Eq, Debug)]
 pub enum Answer {
     Refused { number: u32, place: u32 },
@@ -43,7 +43,7 @@ impl Answer {
     }
 }
 
-// Writes an answer around its legs, which stay as they stand in `bytes`.
+// Writes an answer around its legs, which are in `bytes` already.
 pub fn write_answer(answer: Answer, bytes: &mut [u8]) -> Option<usize>
     ensures { λ r. ⌜ Written (answer-row (as-answer (drop legs-at (now (bytes .entry))) answer)) (now (bytes .entry)) r (now (bytes .exit)) ⌝ }
 {
@@ -75,7 +75,6 @@ pub fn write_answer(answer: Answer, bytes: &mut [u8]) -> Option<usize>
     Some(size)
 }
 
-// The answer that says of a round how many legs it has.
 fn counting(legs: u32, low: Option<u32>) -> Answer
     ensures { λ r. ⌜ r ≡ counted legs low ⌝ }
 {
@@ -85,7 +84,7 @@ fn counting(legs: u32, low: Option<u32>) -> Answer
     }
 }
 
-// Writes a round's legs into their part, and the answer around them.
+// Writes the answer of a round, with its legs.
 pub fn write_round(legs: &[Leg], low: Option<u32>, bytes: &mut [u8]) -> Option<usize>
     ensures { λ r. ⌜ Round-written (map as-leg (now (legs .entry))) low (now (bytes .entry)) r (now (bytes .exit)) ⌝ }
 {
@@ -100,7 +99,7 @@ pub fn write_round(legs: &[Leg], low: Option<u32>, bytes: &mut [u8]) -> Option<u
     write_answer(answer, bytes)
 }
 
-// How many legs a row has whose first byte says that there are some.
+// The count of legs, which comes first in a row that has some.
 fn read_count(rest: &[u8]) -> Result<u32, usize>
     ensures { λ r. ⌜ r ≡ cond (leb 4 (length (now (rest .entry)))) (Ok (word-at (now (rest .entry)) 0)) (Err (1 + length (now (rest .entry)))) ⌝ }
 {
@@ -110,6 +109,7 @@ fn read_count(rest: &[u8]) -> Result<u32, usize>
     Ok(read_word(rest, 0))
 }
 
+// The answer that a row is, its legs left where they are, or the index of the byte at which reading fails.
 pub fn read_answer(row: &[u8]) -> Result<Answer, usize>
     ensures { λ r. ⌜ read-as (as-answer (drop legs-at (now (row .entry)))) r ≡ answer-in (now (row .entry)) ⌝ }
 {

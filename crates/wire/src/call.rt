@@ -17,6 +17,7 @@ pub enum Call {
     Round { from: u32 },
 }
 
+// The call that a row is, or the index of the byte at which reading fails.
 pub fn read_call(row: &[u8]) -> Result<Call, usize>
     ensures { λ r. ⌜ read-as as-call r ≡ call-in (now (row .entry)) ⌝ }
 {
@@ -52,7 +53,7 @@ pub fn read_call(row: &[u8]) -> Result<Call, usize>
     }
 }
 
-// The row of the first of calls that stand one after the other, as far as there are bytes of it.
+// The row of the first call of a sequence, cut short where the bytes end.
 pub fn first_row(calls: &[u8]) -> &[u8]
     ensures { λ r. ⌜ now r ≡ first-row (now (calls .entry)) ⌝ }
 {
@@ -80,6 +81,7 @@ impl Call {
     }
 }
 
+// Writes a call's row to the front of the bytes; its length, or None if they are too few.
 pub fn write_call(call: Call, bytes: &mut [u8]) -> Option<usize>
     ensures { λ r. ⌜ Written (call-row (as-call call)) (now (bytes .entry)) r (now (bytes .exit)) ⌝ }
 {

@@ -1,4 +1,4 @@
-// What the format promises, as contracts: each function asks for its proof.
+// The laws of the format, each owed by a function.
 ghost use Rattle.wire.specs.Laws.{Call-again, Call-row-again, One-call-row, First-row, Answer-again, Answer-row-again, Room};
 
 pub fn call_again()

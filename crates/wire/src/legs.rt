@@ -1,4 +1,4 @@
-// Legs as pairs of bytes, in a part of an answer.
+// Legs of two bytes, in the part of an answer that is theirs.
 ghost use mathlib.Core.Path.{_≡_};
 ghost use mathlib.Core.Bool.{cond};
 ghost use mathlib.Core.List.{map};
@@ -13,7 +13,7 @@ ghost use Rattle.wire.specs.Format.{leg-at, leg-row, legs-row};
 use super::rows::put_row;
 use streets::Leg;
 
-// The leg at place `k`, if the part reaches so far.
+// The k-th leg, if the part has so many.
 pub fn read_leg(part: &[u8], k: usize) -> Option<Leg>
     ensures { λ r. ⌜ mapped as-leg r ≡ cond (leb (2 * k + 2) (length (now (part .entry)))) (Some (leg-at (now (part .entry)) (2 * k))) None ⌝ }
 {
@@ -27,7 +27,7 @@ pub fn read_leg(part: &[u8], k: usize) -> Option<Leg>
     })
 }
 
-// Writes the leg at place `k`; false, and nothing is written, where the part does not reach so far.
+// Writes the k-th leg; false, and nothing is written, if the part has no room for so many.
 pub fn write_leg(part: &mut [u8], k: usize, leg: Leg) -> bool
     ensures fits { λ r. ⌜ r ≡ leb (2 * k + 2) (length (now (part .entry))) ⌝ }
     ensures after { λ r. ⌜ now (part .exit) ≡ cond r (put (now (part .entry)) (2 * k) (leg-row (as-leg leg))) (now (part .entry)) ⌝ }
@@ -40,7 +40,7 @@ pub fn write_leg(part: &mut [u8], k: usize, leg: Leg) -> bool
     true
 }
 
-// Writes legs from the front of the part on; false, and nothing is written, where it is too short.
+// Writes all legs to the front of the part; false, and nothing is written, if it is too short.
 pub fn write_legs(part: &mut [u8], legs: &[Leg]) -> bool
     ensures fits { λ r. ⌜ r ≡ leb (2 * length (now (legs .entry))) (length (now (part .entry))) ⌝ }
     ensures after { λ r. ⌜ now (part .exit) ≡ cond r (put (now (part .entry)) 0 (legs-row (map as-leg (now (legs .entry))))) (now (part .entry)) ⌝ }

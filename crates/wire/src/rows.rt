@@ -1,4 +1,4 @@
-// Numbers of four bytes, low byte first, in rows of bytes.
+// Rows of bytes, and numbers of four bytes in them, little-endian.
 ghost use mathlib.Core.Path.{_≡_};
 ghost use Prim.Native.Nat.{_+_, _≤_};
 ghost use lib.ListN.{length};
@@ -12,7 +12,6 @@ pub fn read_word(bytes: &[u8], at: usize) -> u32
     u32::from_le_bytes([bytes[at], bytes[at + 1], bytes[at + 2], bytes[at + 3]])
 }
 
-// Writes a row over the bytes from a place on.
 pub fn put_row(bytes: &mut [u8], at: usize, row: &[u8])
     requires { ⌜ at + length (now row) ≤ length (now bytes) ⌝ }
     ensures { λ _. ⌜ now (bytes .exit) ≡ put (now (bytes .entry)) at (now (row .entry)) ⌝ }
@@ -27,7 +26,7 @@ pub fn put_word(bytes: &mut [u8], at: usize, n: u32)
     put_row(bytes, at, &n.to_le_bytes());
 }
 
-// Just `size` bytes follow a row's first one, or the place of the first that is missing or too many.
+// Refuses a row of any other size than its first byte asks for, by the index of the byte at fault.
 pub fn exactly(size: usize, rest: &[u8]) -> Result<(), usize>
     ensures { λ r. ⌜ r ≡ fitting size (now (rest .entry)) tt ⌝ }
 {
