@@ -1,4 +1,5 @@
 // Answers as rows of bytes: every kind, legs both ways, rows that are too short, too long or unknown.
+ghost use Prim.Native.Nat.{_<_};
 use std::test::*;
 use streets::Leg;
 use wire::Answer;
@@ -69,77 +70,39 @@ fn bad_rows() -> Result<(), Fail> {
     Ok(())
 }
 
+fn ahead(along: u16) -> Leg
+    requires { ⌜ along < 32768 ⌝ }
+{
+    Leg { along, back: false }
+}
+
+fn back(along: u16) -> Leg
+    requires { ⌜ along < 32768 ⌝ }
+{
+    Leg { along, back: true }
+}
+
 // A shortest round over seven bridges: 0 0' 1 5 4' 2 6 6' 3'.
 #[test]
 fn legs_both_ways() -> Result<(), Fail> {
     let round = [
-        Leg {
-            along: 0,
-            back: false,
-        },
-        Leg {
-            along: 0,
-            back: true,
-        },
-        Leg {
-            along: 1,
-            back: false,
-        },
-        Leg {
-            along: 5,
-            back: false,
-        },
-        Leg {
-            along: 4,
-            back: true,
-        },
-        Leg {
-            along: 2,
-            back: false,
-        },
-        Leg {
-            along: 6,
-            back: false,
-        },
-        Leg {
-            along: 6,
-            back: true,
-        },
-        Leg {
-            along: 3,
-            back: true,
-        },
+        ahead(0),
+        back(0),
+        ahead(1),
+        ahead(5),
+        back(4),
+        ahead(2),
+        ahead(6),
+        back(6),
+        back(3),
     ];
-    let row = [
-        2,
-        9,
-        0,
-        0,
-        0,
-        0,
-        0,
-        1,
-        0,
-        2,
-        0,
-        10,
-        0,
-        9,
-        0,
-        4,
-        0,
-        12,
-        0,
-        13,
-        0,
-        7,
-        0,
-    ];
+    let codes = [0u8, 1, 2, 10, 9, 4, 12, 13, 7];
     let mut bytes = [0u8; 44];
     check_eq(write_round(&round, None, &mut bytes[0..22]), None)?;
     check_eq(write_round(&round, None, &mut bytes), Some(23))?;
-    check_eq(&bytes[0..23], &row)?;
+    check_eq(read_answer(&bytes[0..23]), Ok(Answer::Shortest { legs: 9 }))?;
     for k in 0..9 {
+        check_eq(&bytes[LEGS_AT + 2 * k..LEGS_AT + 2 * k + 2], &[codes[k], 0])?;
         let Some(read) = read_leg(&bytes[LEGS_AT..23], k) else {
             return Err(Fail::new("no leg"));
         };
