@@ -1,4 +1,5 @@
 pub mod Streets
+pub mod Counts
 pub mod Meaning
 pub mod Protocol
 pub mod Calls

@@ -70,15 +70,18 @@ at-most-twice ls n = (i : ℕ) → i < n → times ls i ≤ 2
 abbrev pub ends : Street → ℕ → ℕ
 ends s c = mark (s .one) c + mark (s .other) c
 
-unfoldable pub ends-at : List Street → ℕ → ℕ
-ends-at [] c = 0
-ends-at (s ∷ ss) c = ends s c + ends-at ss c
+-- the sum of f over the streets
+unfoldable pub total : (Street → ℕ) → List Street → ℕ
+total f [] = 0
+total f (s ∷ ss) = f s + total f ss
+
+abbrev pub ends-at : List Street → ℕ → ℕ
+ends-at ss c = total (λ s. ends s c) ss
 
 -- the number of corners below n of odd degree
 unfoldable pub odd-corners : List Street → ℕ → ℕ
 odd-corners ss zero = 0
 odd-corners ss (suc n) = mark (ends-at ss n % 2) 1 + odd-corners ss n
 
-unfoldable pub all-long : List Street → ℕ
-all-long [] = 0
-all-long (s ∷ ss) = s .long + all-long ss
+abbrev pub all-long : List Street → ℕ
+all-long ss = total (λ s. s .long) ss
