@@ -11,10 +11,10 @@ use Rattle.std.proofs.shelf.Tests.{and-parts, ltb-true, cases-lt}
 use Rattle.std.proofs.shelf.Ways.{tells}
 use Rattle.streets.specs.Streets.{Street, Leg, is-round, times, mark, ends, total, ends-at, odd-corners}
 use Rattle.streets.specs.Counts.{sum-below, weigh, degree}
-use Rattle.streets.specs.Promise.{in-town, Once-each, In-pairs}
+use Rattle.streets.specs.Theorems.{in-town, Once-each, In-pairs}
 use Rattle.streets.proofs.Sums.{sum-split, sum-same, sum-none, sum-parity, sum-mark, part-le, weigh-same, weigh-ones}
 use Rattle.streets.proofs.Tests.{odd-sum, once-each-decides}
-use Rattle.streets.proofs.Rounds.{round-of, round-even, joined-connected}
+use Rattle.streets.proofs.Rounds.{round-of, round-even, round-joins, joined-connected}
 
 town-parts : (n : ℕ) (s : Street) (ss : List Street) → in-town n (s ∷ ss) ≡ true → (s .one < n) × (s .other < n) × (in-town n ss ≡ true)
 unfolding in-town
@@ -59,14 +59,16 @@ even-all ss n h none k =
     ]
 
 pub once-each : Once-each
-once-each ss n c town there = (
-  (λ none j.
-      let r = round-of ss (λ _. 1) c (λ k. omega (arith, weigh-ones ss (λ s. ends s k), even-all ss n town none k)) (λ i l. omega arith) (joined-connected ss (λ _. 1) c j (λ i l. omega arith)) in
+once-each ss n c town = (
+  (λ p.
+      let t : ℕ → ℕ = λ _. 1 in
+      let r = round-of ss t c (λ k. omega (arith, weigh-ones ss (λ s. ends s k), even-all ss n town (p .0) k)) (λ i l. omega arith) (joined-connected ss t c (p .1) (λ i l. omega arith)) in
       (r .legs, r .goes-all, once-each-decides (r .legs) (length ss) .1 (r .counts))),
-  λ ls h once.
+  λ r.
+      let ls = r .0 in
       let even : (k : ℕ) → ends-at ss k % 2 ≡ 0 =
       λ k.
       let f : Street → ℕ = λ s. ends s k in
-      omega (arith, round-even ss c ls h k, weigh-same ss f (times ls) (λ _. 1) (once-each-decides ls (length ss) .0 once), weigh-ones ss f) in
-      odd-sum ss n ∙ sum-none (λ k. ends-at ss k % 2) n (λ k _. even k),
+      omega (arith, round-even ss c ls (r .1) k, weigh-same ss f (times ls) (λ _. 1) (once-each-decides ls (length ss) .0 (r .2)), weigh-ones ss f) in
+      (odd-sum ss n ∙ sum-none (λ k. ends-at ss k % 2) n (λ k _. even k), round-joins ss c ls (r .1)),
 )

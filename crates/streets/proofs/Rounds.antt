@@ -12,8 +12,8 @@ use Rattle.std.proofs.shelf.Ways.{tells}
 use Rattle.streets.specs.Streets.{Street, street, Leg, goes, how-long, times, is-round, mark, ends, total, ends-at}
 use Rattle.streets.specs.Counts.{sum-below, weigh, degree, stretch, Connected}
 use Rattle.streets.specs.Calls.{Shortest}
-use Rattle.streets.specs.Promise.{Joined, A-round, Never-thrice, From-anywhere, twice-gone, Joins-odd}
-use Rattle.streets.proofs.Sums.{weigh-split, weigh-same, weigh-some, weigh-front, weigh-ones, weigh-twos, weigh-parity, some-street}
+use Rattle.streets.specs.Theorems.{Joined, A-round, Never-thrice, From-anywhere, twice-gone, Joins-odd}
+use Rattle.streets.proofs.Sums.{weigh-split, weigh-same, weigh-le, weigh-some, weigh-front, weigh-ones, weigh-twos, weigh-parity, some-street}
 use Rattle.streets.proofs.Walks.{joined, times-append, long-append, by-counts, used-there, cut, walk-connected}
 use Rattle.streets.proofs.Parity.{parity}
 use Rattle.streets.proofs.Visits.{remade}
@@ -73,6 +73,11 @@ slimmed ss c ls h =
     (λ k. omega (arith, round-even ss c ls h k, weigh-parity ss (λ s. ends s k) t (times ls) (λ i l. omega arith)))
     (λ i l. omega arith)
     (walk-connected ss c ls c t (r .walks) (λ i l. (λ _. omega arith, λ _. r .covers i l)))
+
+pub slimmed-long : (ss : List Street) (c : ℕ) (ls : List Leg) (h : is-round ss c ls ≡ true) → how-long ss (slimmed ss c ls h .legs) ≤ how-long ss ls
+slimmed-long ss c ls h =
+    let r = from-round ss c ls h in
+    omega (arith, slimmed ss c ls h .long, by-counts ss c ls c (r .walks), weigh-le ss (λ s. s .long) (λ i. slim (times ls i)) (times ls) (λ i l. omega (arith, r .covers i l)))
 
 pub never-thrice : Never-thrice
 never-thrice ss c i ls pos short =

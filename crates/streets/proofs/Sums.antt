@@ -6,7 +6,7 @@ use Prim.Native.Nat.{ℕ, zero, suc, min, _+_, _-_, _*_, _/_, _%_, _≤_, _<_}
 use native.Mathlib.Nat.{mul-pos, mul-le-mul-right}
 use native.Mathlib.Omega.{arith}
 use lib.ListN.{length}
-use Rattle.std.proofs.shelf.Tests.{cases-lt}
+use Rattle.std.proofs.shelf.Tests.{cases-eq, cases-lt}
 use Rattle.std.proofs.shelf.Ways.{tells}
 use Rattle.streets.specs.Streets.{Street, street, mark, total}
 use Rattle.streets.specs.Counts.{sum-below, weigh}
@@ -52,6 +52,15 @@ pub sum-mark : (a n : ℕ) (f : ℕ → ℕ) → a < n → sum-below (λ i. mark
 unfolding sum-below
 sum-mark a zero f l = absurd (omega arith)
 sum-mark a (suc n) f l = elim (cases-lt a n) [ inl m ↦ let r = sum-mark a n f m in grind (arith, tells) | inr m ↦ let e : a ≡ n = omega arith in let r = sum-mark-past a n f (omega arith) in grind (arith, tells) ]
+
+-- counts with one more at e
+pub one-more : (t u : ℕ → ℕ) (e : ℕ) → u e ≡ t e + 1 → ((i : ℕ) → (e ≡ i → ⊥) → u i ≡ t i) → (i : ℕ) → u i ≡ mark e i + t i
+one-more t u e more else-same i =
+    elim (cases-eq e i) [ inl same ↦ let a = ap t same in let b = ap u same in grind (arith, tells) | inr n ↦ let z = else-same i n in grind (arith, tells) ]
+
+-- counts with one taken away at e
+pub taken : (t : ℕ → ℕ) (e : ℕ) → 0 < t e → (i : ℕ) → t i ≡ mark e i + (t i - mark e i)
+taken t e some = one-more (λ i. t i - mark e i) t e (grind (arith, tells)) (λ i n. grind (arith, tells))
 
 -- from the front
 pub sum-front : (f : ℕ → ℕ) (n : ℕ) → sum-below f (suc n) ≡ f 0 + sum-below (λ i. f (suc i)) n
@@ -101,6 +110,16 @@ module _ (ss : List Street) (f : Street → ℕ) where
       let r = some-part (λ i. t i * f (street ss i)) (length ss) h in
       let p = factors (t (r .0)) (f (street ss (r .0))) (r .2) in
       (r .0, r .1, p .0, p .1)
+
+-- the weight of each street by which counts are counted
+abbrev pub ones : Street → ℕ
+ones _ = 1
+
+-- nothing is counted
+pub weigh-nothing : (ss : List Street) (f : Street → ℕ) (t : ℕ → ℕ) → weigh ss ones t ≤ 0 → weigh ss f t ≡ 0
+weigh-nothing ss f t h =
+    elim (cases-lt 0 (weigh ss f t))
+    [ inl m ↦ let r = some-street ss f t m in absurd (omega (arith, weigh-part ss ones t (r .0) (r .1), r .2)) | inr m ↦ omega arith ]
 
 pub weigh-front : (s : Street) (ss : List Street) (f : Street → ℕ) (t : ℕ → ℕ) → weigh (s ∷ ss) f t ≡ t 0 * f s + weigh ss f (λ i. t (suc i))
 unfolding weigh

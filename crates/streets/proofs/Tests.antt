@@ -11,7 +11,7 @@ use Rattle.std.proofs.shelf.Tests.{and-parts, and-from, ltb-true}
 use Rattle.std.proofs.shelf.Ways.{tells, decides-ltb, decides-eqb, decides-below-and}
 use Rattle.streets.specs.Streets.{Street, street, Leg, goes, times, all-gone, is-round, ends-at, odd-corners, mark, total}
 use Rattle.streets.specs.Counts.{sum-below}
-use Rattle.streets.specs.Promise.{in-town, once-each, positive}
+use Rattle.streets.specs.Theorems.{in-town, once-each, positive}
 
 all-gone-decides : (ls : List Leg) (n : ℕ) → Decides (all-gone ls n) ((i : ℕ) → i < n → 0 < times ls i)
 unfolding all-gone

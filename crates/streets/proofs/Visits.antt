@@ -10,7 +10,7 @@ use Rattle.std.proofs.shelf.Tests.{cases-eq, cases-lt}
 use Rattle.std.proofs.shelf.Ways.{tells}
 use Rattle.streets.specs.Streets.{Street, street, Leg, may-go, goes, starts, stops, mark, times, ends}
 use Rattle.streets.specs.Counts.{weigh, degree, Even-but, Connected, Visit}
-use Rattle.streets.proofs.Sums.{weigh-split, weigh-one, weigh-part, weigh-some, some-street}
+use Rattle.streets.proofs.Sums.{ones, taken, weigh-split, weigh-one, weigh-some, weigh-nothing, some-street}
 use Rattle.streets.proofs.Legs.{there, may, leg-ends, starts-end, stops-end, leg-at}
 use Rattle.streets.proofs.Walks.{Step, step, go-on, stands, stay, joined, times-append, weigh-none, weigh-leg}
 
@@ -70,39 +70,26 @@ some-leg ss left v h =
       | inr b ↦ (record { along = r .0; back = true }, r .1, r .2, b)
     ]
 
-taken : (left : ℕ → ℕ) (e : ℕ) → 0 < left e → (i : ℕ) → left i ≡ mark e i + (left i - mark e i)
-taken left e some i = elim (cases-eq e i) [ inl same ↦ let h = ap left same in grind (arith, tells) | inr n ↦ grind (arith, tells) ]
-
 pub record Visited (ss : List Street) (left : ℕ → ℕ) (v w : ℕ) : Type 0 where
   pub walk : List Leg
   pub rest : ℕ → ℕ
   pub seen : Visit ss left v w walk rest
 
--- the number of legs that are left
-legs : List Street → (ℕ → ℕ) → ℕ
-legs ss left = weigh ss (λ _. 1) left
-
 visit-leg : (ss : List Street) (bound : ℕ) (left : ℕ → ℕ) (v w : ℕ) →
-    ((u : ℕ → ℕ) (x y : ℕ) → legs ss u ≤ bound → Even-but ss u x y → Visited ss u x y) →
-    legs ss left ≤ suc bound → Even-but ss left v w → (l : Leg) → l .along < length ss → 0 < left (l .along) → starts ss l ≡ v → Visited ss left v w
-unfolding legs
+    ((u : ℕ → ℕ) (x y : ℕ) → weigh ss ones u ≤ bound → Even-but ss u x y → Visited ss u x y) →
+    weigh ss ones left ≤ suc bound → Even-but ss left v w → (l : Leg) → l .along < length ss → 0 < left (l .along) → starts ss l ≡ v → Visited ss left v w
 visit-leg ss bound left v w visit few even l there some here =
     let less : ℕ → ℕ = λ i. left i - mark (l .along) i in
     let split : (i : ℕ) → left i ≡ mark (l .along) i + less i = taken left (l .along) some in
-    let a = weigh-split ss (λ _. 1) left (mark (l .along)) less (λ i _. split i) in
-    let b = weigh-one ss (λ _. 1) (l .along) there in
+    let a = weigh-split ss ones left (mark (l .along)) less (λ i _. split i) in
+    let b = weigh-one ss ones (l .along) there in
     let on = visit less (stops ss l) w (omega arith) (leg-even ss left less v w l there here split even) in
-    let d = weigh-split ss (λ _. 1) less (times (on .walk)) (on .rest) (λ i _. on .seen .split i) in
+    let d = weigh-split ss ones less (times (on .walk)) (on .rest) (λ i _. on .seen .split i) in
     let home = visit (on .rest) v v (omega arith) (λ k. omega (arith, on .seen .even k)) in
     record { walk = home .walk ++ l ∷ on .walk; rest = home .rest; seen = join ss left less v w l (on .walk) (on .rest) (home .walk) (home .rest) (may ss l there) here split (on .seen) (home .seen) }
 
-visit-from : (ss : List Street) (bound : ℕ) (left : ℕ → ℕ) (v w : ℕ) → legs ss left ≤ bound → Even-but ss left v w → Visited ss left v w
-unfolding legs
-visit-from ss zero left v w few even =
-    elim (cases-lt 0 (degree ss left v)) [
-      | inl m ↦ let r = some-leg ss left v m in absurd (omega (arith, weigh-part ss (λ _. 1) left (r .0 .along) (r .1), r .2))
-      | inr m ↦ record { walk = []; rest = left; seen = stop ss left v w even (omega arith) }
-    ]
+visit-from : (ss : List Street) (bound : ℕ) (left : ℕ → ℕ) (v w : ℕ) → weigh ss ones left ≤ bound → Even-but ss left v w → Visited ss left v w
+visit-from ss zero left v w few even = record { walk = []; rest = left; seen = stop ss left v w even (weigh-nothing ss (λ s. ends s v) left few) }
 visit-from ss (suc bound) left v w few even =
     elim (cases-lt 0 (degree ss left v)) [
       | inl m ↦ let r = some-leg ss left v m in visit-leg ss bound left v w (visit-from ss bound) few even (r .0) (r .1) (r .2) (r .3)
@@ -110,7 +97,7 @@ visit-from ss (suc bound) left v w few even =
     ]
 
 pub visit : (ss : List Street) (left : ℕ → ℕ) (v w : ℕ) → Even-but ss left v w → Visited ss left v w
-visit ss left v w even = visit-from ss (legs ss left) left v w (omega arith) even
+visit ss left v w even = visit-from ss (weigh ss ones left) left v w (omega arith) even
 
 -- the corners of a visit's walk, from which it leaves nothing
 Touched : List Street → ℕ → List Leg → ℕ → Type 0

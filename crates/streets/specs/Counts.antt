@@ -2,7 +2,7 @@
 use mathlib.Core.Path.{_≡_}
 use mathlib.Core.Bool.{true}
 use mathlib.Core.List.{List}
-use Prim.Native.Nat.{ℕ, zero, suc, min, _+_, _*_, _%_, _<_}
+use Prim.Native.Nat.{ℕ, zero, suc, min, _+_, _*_, _%_, _≤_, _<_}
 use lib.ListN.{length}
 use Rattle.streets.specs.Streets.{Street, street, Leg, goes, mark, times, ends}
 
@@ -39,3 +39,9 @@ pub record Visit (ss : List Street) (left : ℕ → ℕ) (v w : ℕ) (walk : Lis
   pub split : (i : ℕ) → left i ≡ times walk i + rest i
   pub even : (k : ℕ) → degree ss rest k % 2 ≡ 0
   pub bare : (k : ℕ) → min (mark v k + degree ss (times walk) k) (degree ss rest k) ≡ 0
+
+-- from t, which uses each street once or twice, to u, which does too: degrees by `ends` more, up to an even number, and a length by at most n more
+pub record Switched (ss : List Street) (t : ℕ → ℕ) (ends : ℕ → ℕ) (n : ℕ) (u : ℕ → ℕ) : Type 0 where
+  pub still : (i : ℕ) → i < length ss → (1 ≤ u i) × (u i ≤ 2)
+  pub parity : (k : ℕ) → degree ss u k % 2 ≡ (degree ss t k + ends k) % 2
+  pub cost : stretch ss u ≤ stretch ss t + n

@@ -1,6 +1,9 @@
 pub mod Streets
 pub mod Counts
+pub mod Pairs
 pub mod Meaning
 pub mod Protocol
 pub mod Calls
 pub mod Promise
+pub mod Trials
+pub mod Theorems

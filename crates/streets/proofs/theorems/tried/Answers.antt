@@ -1,0 +1,5 @@
+use Rattle.streets.proofs.Trials.{tried-shortest}
+use Rattle.streets.proofs.theorems.tried.Needs as need
+
+pub returns : need.returns
+returns c = tried-shortest
