@@ -1,16 +1,16 @@
 -- Odd corners: how many there are, and that none is there just if a round can use each street once.
-use mathlib.Core.Path.{_≡_, refl, sym, ap, _∙_}
-use mathlib.Core.Logic.{_⊎_, inl, inr}
-use mathlib.Core.Bool.{Bool, true, false, _&&_}
-use mathlib.Core.List.{List, [], _∷_, _++_}
-use Prim.Native.Nat.{ℕ, zero, suc, _+_, _*_, _%_, _≤_, _<_}
+use mathlib.Core.Path.{_≡_, refl, _∙_}
+use mathlib.Core.Logic.{inl, inr}
+use mathlib.Core.Bool.{true, _&&_}
+use mathlib.Core.List.{List, [], _∷_}
+use Prim.Native.Nat.{ℕ, _*_, _%_, _≤_, _<_}
 use native.Mathlib.Omega.{arith}
 use lib.Dec.{ltb}
 use lib.ListN.{length}
 use Rattle.std.proofs.shelf.Tests.{and-parts, ltb-true, cases-lt}
 use Rattle.std.proofs.shelf.Ways.{tells}
-use Rattle.streets.specs.Streets.{Street, Leg, is-round, times, mark, ends, total, ends-at, odd-corners}
-use Rattle.streets.specs.Counts.{sum-below, weigh, degree}
+use Rattle.streets.specs.Streets.{Street, times, mark, ends, total, ends-at, odd-corners}
+use Rattle.streets.specs.Counts.{sum-below}
 use Rattle.streets.specs.Theorems.{in-town, Once-each, In-pairs}
 use Rattle.streets.proofs.Sums.{sum-split, sum-same, sum-none, sum-parity, sum-mark, part-le, weigh-same, weigh-ones}
 use Rattle.streets.proofs.Tests.{odd-sum, once-each-decides}

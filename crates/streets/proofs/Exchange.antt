@@ -1,8 +1,8 @@
 -- The exchange lemma: pairs, and one link more, made into pairs again at no higher cost.
-use mathlib.Core.Path.{_≡_, refl, sym, ap, _∙_}
-use mathlib.Core.Logic.{_⊎_, inl, inr}
+use mathlib.Core.Path.{_≡_, ap}
+use mathlib.Core.Logic.{inl, inr}
 use mathlib.Core.List.{List, [], _∷_}
-use Prim.Native.Nat.{ℕ, zero, suc, min, _+_, _%_, _≤_, _<_}
+use Prim.Native.Nat.{ℕ, min, _+_, _%_, _≤_, _<_}
 use native.Mathlib.Omega.{arith}
 use Rattle.std.specs.shelf.Lists.{All}
 use Rattle.std.proofs.shelf.Tests.{cases-eq, cases-lt}

@@ -1,13 +1,13 @@
 -- Two kinds of links: the walks of a town, and what is no shorter than a metric. Shortest ways are a metric.
-use mathlib.Core.Path.{_≡_, refl, _∙_}
-use mathlib.Core.Logic.{_⊎_, inl, inr}
+use mathlib.Core.Path.{refl, _∙_}
+use mathlib.Core.Logic.{inl, inr}
 use mathlib.Core.Bool.{false}
 use mathlib.Core.List.{List, [], _∷_, _++_}
-use Prim.Native.Nat.{ℕ, _+_, _≤_, _<_}
+use Prim.Native.Nat.{ℕ, _+_, _≤_}
 use native.Mathlib.Omega.{arith}
 use Rattle.std.proofs.shelf.Tests.{cases-lt}
-use Rattle.streets.specs.Streets.{Street, street, Leg, goes, how-long}
-use Rattle.streets.specs.Pairs.{Way, Links, Linking, Spans, Metric, No-shorter, Shortest-ways}
+use Rattle.streets.specs.Streets.{Street, Leg, how-long}
+use Rattle.streets.specs.Pairs.{Way, Linking, Spans, Metric, No-shorter, Shortest-ways}
 use Rattle.streets.proofs.Legs.{may, as-long}
 use Rattle.streets.proofs.Walks.{stay, one-leg, joined, long-append}
 use Rattle.streets.proofs.Reversal.{Both-ways, reversed}

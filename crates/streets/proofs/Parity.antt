@@ -2,9 +2,9 @@
 use mathlib.Core.Path.{_≡_, ap}
 use mathlib.Core.Bool.{true}
 use mathlib.Core.List.{List, [], _∷_}
-use Prim.Native.Nat.{ℕ, _+_, _%_}
+use Prim.Native.Nat.{ℕ}
 use native.Mathlib.Omega.{arith}
-use Rattle.streets.specs.Streets.{Street, Leg, goes, starts, stops, mark, times, ends}
+use Rattle.streets.specs.Streets.{Street, Leg, goes, stops, mark, times, ends}
 use Rattle.streets.specs.Counts.{Even-but}
 use Rattle.streets.proofs.Legs.{leg-ends}
 use Rattle.streets.proofs.Walks.{step, stands, weigh-none, weigh-leg}

@@ -1,13 +1,13 @@
 -- A shortest round: all streets, and the cheapest ways that join the odd corners in pairs.
-use mathlib.Core.Path.{_≡_, refl}
+use mathlib.Core.Path.{_≡_}
 use mathlib.Core.Bool.{true}
 use mathlib.Core.List.{List}
 use Prim.Native.Nat.{ℕ, _+_, _≤_, _<_}
 use native.Mathlib.Omega.{arith}
 use lib.ListN.{length}
-use Rattle.streets.specs.Streets.{Street, Leg, is-round, how-long, ends, ends-at, all-long, at-most-twice}
+use Rattle.streets.specs.Streets.{Street, Leg, is-round, how-long, ends, all-long, at-most-twice}
 use Rattle.streets.specs.Calls.{Shortest}
-use Rattle.streets.specs.Pairs.{Way, Pairing, odd-once, No-shorter}
+use Rattle.streets.specs.Pairs.{Way, No-shorter}
 use Rattle.streets.specs.Theorems.{Joined, Pairs-below, Metric-below, Pairs-above, Cheapest, Postman}
 use Rattle.streets.proofs.Sums.{weigh-ones}
 use Rattle.streets.proofs.Reversal.{both-ways}

@@ -1,23 +1,22 @@
 -- Rounds from counts: Euler's theorem, and what a shortest round uses.
-use mathlib.Core.Path.{_≡_, refl, sym, ap, _∙_}
-use mathlib.Core.Logic.{_⊎_, inl, inr}
+use mathlib.Core.Path.{_≡_, refl, ap, _∙_}
+use mathlib.Core.Logic.{inl, inr}
 use mathlib.Core.Bool.{Bool, true, false, cond}
 use mathlib.Core.List.{List, [], _∷_, _++_}
-use Prim.Native.Nat.{ℕ, zero, suc, _+_, _-_, _*_, _/_, _%_, _≤_, _<_}
+use Prim.Native.Nat.{ℕ, suc, _+_, _-_, _*_, _%_, _≤_, _<_}
 use native.Mathlib.Omega.{arith}
 use lib.Dec.{eqb}
 use lib.ListN.{length}
 use Rattle.std.proofs.shelf.Tests.{cases-lt}
 use Rattle.std.proofs.shelf.Ways.{tells}
-use Rattle.streets.specs.Streets.{Street, street, Leg, goes, how-long, times, is-round, mark, ends, total, ends-at}
+use Rattle.streets.specs.Streets.{Street, street, Leg, how-long, times, is-round, mark, ends, total, ends-at}
 use Rattle.streets.specs.Counts.{sum-below, weigh, degree, stretch, Connected}
-use Rattle.streets.specs.Calls.{Shortest}
 use Rattle.streets.specs.Theorems.{Joined, A-round, Never-thrice, From-anywhere, twice-gone, Joins-odd}
 use Rattle.streets.proofs.Sums.{weigh-split, weigh-same, weigh-le, weigh-some, weigh-front, weigh-ones, weigh-twos, weigh-parity, some-street}
 use Rattle.streets.proofs.Walks.{joined, times-append, long-append, by-counts, used-there, cut, walk-connected}
 use Rattle.streets.proofs.Parity.{parity}
 use Rattle.streets.proofs.Visits.{remade}
-use Rattle.streets.proofs.Tests.{Round, from-round, to-round, positive-at}
+use Rattle.streets.proofs.Tests.{from-round, to-round, positive-at}
 
 -- counts that use every street
 pub joined-connected : (ss : List Street) (t : ℕ → ℕ) (c : ℕ) → Joined ss c → ((i : ℕ) → i < length ss → 0 < t i) → Connected ss t c

@@ -10,7 +10,7 @@ use lib.ListN.{length}
 use Rattle.std.specs.shelf.Lists.{All}
 use Rattle.std.proofs.shelf.Tests.{cases-eq, cases-lt}
 use Rattle.std.proofs.shelf.Ways.{tells}
-use Rattle.streets.specs.Streets.{Street, street, Leg, may-go, leg-long, starts, stops, goes, how-long, mark, ends, total, ends-at, all-long}
+use Rattle.streets.specs.Streets.{Street, street, Leg, stops, goes, how-long, mark, ends, total, ends-at, all-long}
 use Rattle.streets.specs.Counts.{weigh, Switched}
 use Rattle.streets.specs.Pairs.{Way}
 use Rattle.streets.proofs.Sums.{one-more, weigh-split, weigh-one}

@@ -1,17 +1,17 @@
 -- The tests of the definitions, each as the fact that it decides.
 use mathlib.Core.Path.{_≡_, refl}
-use mathlib.Core.Bool.{true, _&&_}
+use mathlib.Core.Bool.{true}
 use mathlib.Core.List.{List, [], _∷_}
-use Prim.Native.Nat.{ℕ, zero, suc, _+_, _%_, _≤_, _<_}
+use Prim.Native.Nat.{ℕ, zero, suc, _%_, _<_}
 use native.Mathlib.Omega.{arith}
 use lib.Dec.{ltb, eqb}
 use lib.ListN.{length}
 use Rattle.std.specs.Orderings.{Decides}
 use Rattle.std.proofs.shelf.Tests.{and-parts, and-from, ltb-true}
 use Rattle.std.proofs.shelf.Ways.{tells, decides-ltb, decides-eqb, decides-below-and}
-use Rattle.streets.specs.Streets.{Street, street, Leg, goes, times, all-gone, is-round, ends-at, odd-corners, mark, total}
+use Rattle.streets.specs.Streets.{Street, street, Leg, goes, times, all-gone, is-round, ends-at, odd-corners}
 use Rattle.streets.specs.Counts.{sum-below}
-use Rattle.streets.specs.Theorems.{in-town, once-each, positive}
+use Rattle.streets.specs.Theorems.{once-each, positive}
 
 all-gone-decides : (ls : List Leg) (n : ℕ) → Decides (all-gone ls n) ((i : ℕ) → i < n → 0 < times ls i)
 unfolding all-gone

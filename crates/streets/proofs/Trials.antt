@@ -10,9 +10,9 @@ use lib.ListN.{length}
 use Rattle.std.specs.Orderings.{Decides}
 use Rattle.std.proofs.shelf.Tests.{and-parts, and-from, and-cases, or-cases, or-parts, not-true, not-false, leb-true, leb-false, lt-ltb, eq-eqb, eqb-true, both-ways, cases-bool, cases-eq, cases-lt}
 use Rattle.std.proofs.shelf.Ways.{tells, decides-ltb, decides-below-and}
-use Rattle.streets.specs.Streets.{Street, Leg, starts, stops, may-go, leg-long, goes, how-long, mark, times, all-gone, is-round, at-most-twice}
+use Rattle.streets.specs.Streets.{Street, Leg, ahead, back, starts, stops, may-go, leg-long, goes, how-long, mark, times, all-gone, is-round, at-most-twice}
 use Rattle.streets.specs.Calls.{Shortest}
-use Rattle.streets.specs.Trials.{ahead, back, every-leg, all-used, next, none-below, tried}
+use Rattle.streets.specs.Trials.{every-leg, all-used, next, none-below, tried}
 use Rattle.streets.specs.Theorems.{Joined, Tried, triangle, Triangle-shortest, path, Path-shortest}
 use Rattle.streets.proofs.Legs.{there}
 use Rattle.streets.proofs.Walks.{step, go-on, stands, stay, used-there}

@@ -1,17 +1,17 @@
 -- Walks: taken apart at their first leg, joined, cut at a corner, and weighed by how often they use each street.
 use mathlib.Core.Path.{_≡_, refl, sym, ap, _∙_}
-use mathlib.Core.Logic.{_⊎_, _↔_, inl, inr}
-use mathlib.Core.Bool.{Bool, true, false, _&&_}
+use mathlib.Core.Logic.{_↔_, inl, inr}
+use mathlib.Core.Bool.{true, _&&_}
 use mathlib.Core.List.{List, [], _∷_, _++_}
-use Prim.Native.Nat.{ℕ, zero, suc, _+_, _*_, _≤_, _<_}
+use Prim.Native.Nat.{ℕ, _+_, _<_}
 use native.Mathlib.Omega.{arith}
 use lib.Dec.{eqb}
 use lib.ListN.{length}
-use Rattle.std.proofs.shelf.Tests.{and-parts, and-from, eqb-true, eq-eqb, cases-eq, cases-lt}
+use Rattle.std.proofs.shelf.Tests.{and-parts, and-from, eqb-true, eq-eqb, cases-lt}
 use Rattle.std.proofs.shelf.Ways.{tells}
-use Rattle.streets.specs.Streets.{Street, street, Leg, may-go, leg-long, goes, starts, stops, how-long, mark, times, ends}
-use Rattle.streets.specs.Counts.{sum-below, weigh, stretch, Connected}
-use Rattle.streets.proofs.Sums.{weigh-split, weigh-same, weigh-one}
+use Rattle.streets.specs.Streets.{Street, street, Leg, may-go, goes, starts, stops, how-long, mark, times, ends}
+use Rattle.streets.specs.Counts.{weigh, stretch, Connected}
+use Rattle.streets.proofs.Sums.{weigh-split, weigh-one}
 use Rattle.streets.proofs.Legs.{there, as-long, leg-at}
 
 -- a walk by its first leg
@@ -19,71 +19,6 @@ pub record Step (ss : List Street) (c : ℕ) (l : Leg) (ls : List Leg) (d : ℕ)
   pub may : may-go ss l ≡ true
   pub here : starts ss l ≡ c
   pub on : goes ss (stops ss l) ls d ≡ true
-
-pub step : (ss : List Street) (c : ℕ) (l : Leg) (ls : List Leg) (d : ℕ) → goes ss c (l ∷ ls) d ≡ true → Step ss c l ls d
-unfolding goes
-step ss c l ls d h =
-    let p = and-parts (may-go ss l && eqb (starts ss l) c) (goes ss (stops ss l) ls d) h in
-    let q = and-parts (may-go ss l) (eqb (starts ss l) c) (p .0) in
-    record { may = q .0; here = eqb-true (starts ss l) c (q .1); on = p .1 }
-
-pub go-on : (ss : List Street) (c : ℕ) (l : Leg) (ls : List Leg) (d : ℕ) → Step ss c l ls d → goes ss c (l ∷ ls) d ≡ true
-unfolding goes
-go-on ss c l ls d s = and-from (may-go ss l && eqb (starts ss l) c) (goes ss (stops ss l) ls d) (and-from (may-go ss l) (eqb (starts ss l) c) (s .may) (eq-eqb (starts ss l) c (s .here))) (s .on)
-
-pub stands : (ss : List Street) (c d : ℕ) → goes ss c [] d ≡ true → c ≡ d
-unfolding goes
-stands ss c d h = eqb-true c d h
-
-pub stay : (ss : List Street) (c : ℕ) → goes ss c [] c ≡ true
-unfolding goes
-stay ss c = eq-eqb c c refl
-
-pub joined : (ss : List Street) (c : ℕ) (ls : List Leg) (d : ℕ) (ms : List Leg) (e : ℕ) → goes ss c ls d ≡ true → goes ss d ms e ≡ true → goes ss c (ls ++ ms) e ≡ true
-joined ss c [] d ms e h k = rw (stands ss c d h) k
-joined ss c (l ∷ ls) d ms e h k =
-    let s = step ss c l ls d h in
-    go-on ss c l (ls ++ ms) e (record { may = s .may; here = s .here; on = joined ss (stops ss l) ls d ms e (s .on) k })
-
-pub times-append : (ls ms : List Leg) (i : ℕ) → times (ls ++ ms) i ≡ times ls i + times ms i
-unfolding times
-times-append [] ms i = omega arith
-times-append (l ∷ ls) ms i = let r = times-append ls ms i in omega arith
-
-pub long-append : (ss : List Street) (ls ms : List Leg) → how-long ss (ls ++ ms) ≡ how-long ss ls + how-long ss ms
-unfolding how-long
-long-append ss [] ms = omega arith
-long-append ss (l ∷ ls) ms = let r = long-append ss ls ms in omega arith
-
--- a walk of one leg
-pub one-leg : (ss : List Street) (l : Leg) → may-go ss l ≡ true → goes ss (starts ss l) (l ∷ []) (stops ss l) ≡ true
-one-leg ss l h = go-on ss (starts ss l) l [] (stops ss l) (record { may = h; here = refl; on = stay ss (stops ss l) })
-
-pub weigh-none : (ss : List Street) (f : Street → ℕ) → weigh ss f (times []) ≡ 0
-unfolding times
-weigh-none ss f = let e = weigh-split ss f (times []) (times []) (times []) (λ i l. refl) in omega arith
-
-pub weigh-leg : (ss : List Street) (f : Street → ℕ) (l : Leg) (ls : List Leg) → may-go ss l ≡ true → weigh ss f (times (l ∷ ls)) ≡ f (street ss (l .along)) + weigh ss f (times ls)
-unfolding times
-weigh-leg ss f l ls h = omega (arith, weigh-split ss f (times (l ∷ ls)) (mark (l .along)) (times ls) (λ i _. refl), weigh-one ss f (l .along) (there ss l h))
-
--- a walk is as long as its counts say
-pub by-counts : (ss : List Street) (c : ℕ) (ls : List Leg) (d : ℕ) → goes ss c ls d ≡ true → how-long ss ls ≡ stretch ss (times ls)
-unfolding how-long
-by-counts ss c [] d h = sym (weigh-none ss (λ s. s .long))
-by-counts ss c (l ∷ ls) d h =
-    let s = step ss c l ls d h in
-    let r = by-counts ss (stops ss l) ls d (s .on) in
-    omega (arith, weigh-leg ss (λ s. s .long) l ls (s .may), as-long ss l)
-
--- it uses only streets that are there
-pub used-there : (ss : List Street) (c : ℕ) (ls : List Leg) (d i : ℕ) → goes ss c ls d ≡ true → 0 < times ls i → i < length ss
-unfolding times
-used-there ss c [] d i h u = absurd (omega arith)
-used-there ss c (l ∷ ls) d i h u =
-    let s = step ss c l ls d h in
-    let t = there ss l (s .may) in
-    elim (cases-lt 0 (times ls i)) [ inl m ↦ used-there ss (stops ss l) ls d i (s .on) m | inr m ↦ grind (arith, tells) ]
 
 -- a walk that comes to k, cut there
 pub record Cut (ss : List Street) (c : ℕ) (ls : List Leg) (d k : ℕ) : Type 0 where
@@ -93,38 +28,104 @@ pub record Cut (ss : List Street) (c : ℕ) (ls : List Leg) (d k : ℕ) : Type 0
   pub to : goes ss c before k ≡ true
   pub from : goes ss k behind d ≡ true
 
-cut-later : (ss : List Street) (c : ℕ) (l : Leg) (ls : List Leg) (d k : ℕ) → Step ss c l ls d → Cut ss (stops ss l) ls d k → Cut ss c (l ∷ ls) d k
-cut-later ss c l ls d k s r =
-    record {
-      before = l ∷ r .before;
-      behind = r .behind;
-      whole = ap {B = List Leg} (λ ms. l ∷ ms) (r .whole);
-      to = go-on ss c l (r .before) k (record { may = s .may; here = s .here; on = r .to });
-      from = r .from;
-    }
-
-cut-here : (ss : List Street) (c : ℕ) (ls : List Leg) (d k : ℕ) → goes ss c ls d ≡ true → c ≡ k → Cut ss c ls d k
-cut-here ss c ls d k h e = record { before = []; behind = ls; whole = refl; to = rw e (stay ss k); from = rw e at h }
-
--- it comes to both ends of each street that it uses
-pub cut : (ss : List Street) (c : ℕ) (ls : List Leg) (d i k : ℕ) → goes ss c ls d ≡ true → 0 < times ls i → 0 < ends (street ss i) k → Cut ss c ls d k
+pub times-append : (ls ms : List Leg) (i : ℕ) → times (ls ++ ms) i ≡ times ls i + times ms i
 unfolding times
-cut ss c [] d i k h u e = absurd (omega arith)
-cut ss c (l ∷ ls) d i k h u e =
-    let s = step ss c l ls d h in
-    elim (cases-lt 0 (times ls i)) [
-      | inl m ↦ cut-later ss c l ls d k s (cut ss (stops ss l) ls d i k (s .on) m e)
-      | inr m ↦
-          let same : l .along ≡ i = grind (arith, tells) in
-          elim (leg-at ss l k (rw same e)) [
-            | inl b ↦ cut-here ss c (l ∷ ls) d k h (sym (s .here) ∙ b)
-            | inr b ↦ cut-later ss c l ls d k s (cut-here ss (stops ss l) ls d k (s .on) b)
-          ]
-    ]
+times-append [] ms i = omega arith
+times-append (l ∷ ls) ms i = let r = times-append ls ms i in omega arith
 
--- counts of the same streets as a walk's hang together
-pub walk-connected : (ss : List Street) (c : ℕ) (ls : List Leg) (d : ℕ) (t : ℕ → ℕ) → goes ss c ls d ≡ true → ((i : ℕ) → i < length ss → 0 < times ls i ↔ 0 < t i) → Connected ss t c
-walk-connected ss c ls d t h same i l u =
-    let a = street ss i .one in
-    let r = cut ss c ls d i a h (same i l .1 u) (grind (arith, tells)) in
-    (r .before, r .to, λ e v. same e (used-there ss c (r .before) a e (r .to) v) .0 (omega (arith, times-append (r .before) (r .behind) e, ap (λ (ms : List Leg). times ms e) (r .whole))))
+module _ (ss : List Street) where
+  pub step : (c : ℕ) (l : Leg) (ls : List Leg) (d : ℕ) → goes ss c (l ∷ ls) d ≡ true → Step ss c l ls d
+  unfolding goes
+  step c l ls d h =
+      let p = and-parts (may-go ss l && eqb (starts ss l) c) (goes ss (stops ss l) ls d) h in
+      let q = and-parts (may-go ss l) (eqb (starts ss l) c) (p .0) in
+      record { may = q .0; here = eqb-true (starts ss l) c (q .1); on = p .1 }
+
+  pub go-on : (c : ℕ) (l : Leg) (ls : List Leg) (d : ℕ) → Step ss c l ls d → goes ss c (l ∷ ls) d ≡ true
+  unfolding goes
+  go-on c l ls d s = and-from (may-go ss l && eqb (starts ss l) c) (goes ss (stops ss l) ls d) (and-from (may-go ss l) (eqb (starts ss l) c) (s .may) (eq-eqb (starts ss l) c (s .here))) (s .on)
+
+  pub stands : (c d : ℕ) → goes ss c [] d ≡ true → c ≡ d
+  unfolding goes
+  stands c d h = eqb-true c d h
+
+  pub stay : (c : ℕ) → goes ss c [] c ≡ true
+  unfolding goes
+  stay c = eq-eqb c c refl
+
+  pub joined : (c : ℕ) (ls : List Leg) (d : ℕ) (ms : List Leg) (e : ℕ) → goes ss c ls d ≡ true → goes ss d ms e ≡ true → goes ss c (ls ++ ms) e ≡ true
+  joined c [] d ms e h k = rw (stands c d h) k
+  joined c (l ∷ ls) d ms e h k =
+      let s = step c l ls d h in
+      go-on c l (ls ++ ms) e (record { may = s .may; here = s .here; on = joined (stops ss l) ls d ms e (s .on) k })
+
+  pub long-append : (ls ms : List Leg) → how-long ss (ls ++ ms) ≡ how-long ss ls + how-long ss ms
+  unfolding how-long
+  long-append [] ms = omega arith
+  long-append (l ∷ ls) ms = let r = long-append ls ms in omega arith
+
+  -- a walk of one leg
+  pub one-leg : (l : Leg) → may-go ss l ≡ true → goes ss (starts ss l) (l ∷ []) (stops ss l) ≡ true
+  one-leg l h = go-on (starts ss l) l [] (stops ss l) (record { may = h; here = refl; on = stay (stops ss l) })
+
+  pub weigh-none : (f : Street → ℕ) → weigh ss f (times []) ≡ 0
+  unfolding times
+  weigh-none f = let e = weigh-split ss f (times []) (times []) (times []) (λ i l. refl) in omega arith
+
+  pub weigh-leg : (f : Street → ℕ) (l : Leg) (ls : List Leg) → may-go ss l ≡ true → weigh ss f (times (l ∷ ls)) ≡ f (street ss (l .along)) + weigh ss f (times ls)
+  unfolding times
+  weigh-leg f l ls h = omega (arith, weigh-split ss f (times (l ∷ ls)) (mark (l .along)) (times ls) (λ i _. refl), weigh-one ss f (l .along) (there ss l h))
+
+  -- a walk is as long as its counts say
+  pub by-counts : (c : ℕ) (ls : List Leg) (d : ℕ) → goes ss c ls d ≡ true → how-long ss ls ≡ stretch ss (times ls)
+  unfolding how-long
+  by-counts c [] d h = sym (weigh-none (λ s. s .long))
+  by-counts c (l ∷ ls) d h =
+      let s = step c l ls d h in
+      let r = by-counts (stops ss l) ls d (s .on) in
+      omega (arith, weigh-leg (λ s. s .long) l ls (s .may), as-long ss l)
+
+  -- it uses only streets that are there
+  pub used-there : (c : ℕ) (ls : List Leg) (d i : ℕ) → goes ss c ls d ≡ true → 0 < times ls i → i < length ss
+  unfolding times
+  used-there c [] d i h u = absurd (omega arith)
+  used-there c (l ∷ ls) d i h u =
+      let s = step c l ls d h in
+      let t = there ss l (s .may) in
+      elim (cases-lt 0 (times ls i)) [ inl m ↦ used-there (stops ss l) ls d i (s .on) m | inr m ↦ grind (arith, tells) ]
+
+  cut-later : (c : ℕ) (l : Leg) (ls : List Leg) (d k : ℕ) → Step ss c l ls d → Cut ss (stops ss l) ls d k → Cut ss c (l ∷ ls) d k
+  cut-later c l ls d k s r =
+      record {
+        before = l ∷ r .before;
+        behind = r .behind;
+        whole = ap {B = List Leg} (λ ms. l ∷ ms) (r .whole);
+        to = go-on c l (r .before) k (record { may = s .may; here = s .here; on = r .to });
+        from = r .from;
+      }
+
+  cut-here : (c : ℕ) (ls : List Leg) (d k : ℕ) → goes ss c ls d ≡ true → c ≡ k → Cut ss c ls d k
+  cut-here c ls d k h e = record { before = []; behind = ls; whole = refl; to = rw e (stay k); from = rw e at h }
+
+  -- it comes to both ends of each street that it uses
+  pub cut : (c : ℕ) (ls : List Leg) (d i k : ℕ) → goes ss c ls d ≡ true → 0 < times ls i → 0 < ends (street ss i) k → Cut ss c ls d k
+  unfolding times
+  cut c [] d i k h u e = absurd (omega arith)
+  cut c (l ∷ ls) d i k h u e =
+      let s = step c l ls d h in
+      elim (cases-lt 0 (times ls i)) [
+        | inl m ↦ cut-later c l ls d k s (cut (stops ss l) ls d i k (s .on) m e)
+        | inr m ↦
+            let same : l .along ≡ i = grind (arith, tells) in
+            elim (leg-at ss l k (rw same e)) [
+              | inl b ↦ cut-here c (l ∷ ls) d k h (sym (s .here) ∙ b)
+              | inr b ↦ cut-later c l ls d k s (cut-here (stops ss l) ls d k (s .on) b)
+            ]
+      ]
+
+  -- counts of the same streets as a walk's hang together
+  pub walk-connected : (c : ℕ) (ls : List Leg) (d : ℕ) (t : ℕ → ℕ) → goes ss c ls d ≡ true → ((i : ℕ) → i < length ss → 0 < times ls i ↔ 0 < t i) → Connected ss t c
+  walk-connected c ls d t h same i l u =
+      let a = street ss i .one in
+      let r = cut c ls d i a h (same i l .1 u) (grind (arith, tells)) in
+      (r .before, r .to, λ e v. same e (used-there c (r .before) a e (r .to) v) .0 (omega (arith, times-append (r .before) (r .behind) e, ap (λ (ms : List Leg). times ms e) (r .whole))))

@@ -1,5 +1,5 @@
 -- Streets, legs, walks and rounds, and the degrees of corners.
-use mathlib.Core.Bool.{Bool, true, cond, _&&_}
+use mathlib.Core.Bool.{Bool, true, false, cond, _&&_}
 use mathlib.Core.List.{List, [], _∷_}
 use Prim.Native.Nat.{ℕ, zero, suc, _+_, _%_, _≤_, _<_}
 use lib.Dec.{ltb, eqb}
@@ -22,6 +22,12 @@ street ss i = getD ss i (joining 0 0 0)
 pub record Leg : Type 0 where
   pub along : ℕ
   pub back : Bool
+
+abbrev pub ahead : ℕ → Leg
+ahead i = record { along = i; back = false }
+
+abbrev pub back : ℕ → Leg
+back i = record { along = i; back = true }
 
 abbrev pub starts : List Street → Leg → ℕ
 starts ss l = cond (l .back) (street ss (l .along) .other) (street ss (l .along) .one)

@@ -6,10 +6,10 @@ use mathlib.Core.List.{List, [], _∷_}
 use Prim.Native.Nat.{ℕ, zero, suc, _+_, _*_, _%_, _≤_, _<_}
 use lib.Dec.{ltb, eqb}
 use lib.ListN.{length}
-use Rattle.streets.specs.Streets.{Street, joining, street, Leg, goes, how-long, times, is-round, ends-at, odd-corners, all-long, at-most-twice}
+use Rattle.streets.specs.Streets.{Street, joining, street, Leg, ahead, back, goes, how-long, times, is-round, ends-at, odd-corners, all-long, at-most-twice}
 use Rattle.streets.specs.Calls.{Shortest}
 use Rattle.streets.specs.Pairs.{Way, Spans, Pairing, odd-once, Metric, No-shorter}
-use Rattle.streets.specs.Trials.{ahead, back, tried}
+use Rattle.streets.specs.Trials.{tried}
 
 -- every end of a street is below n
 unfoldable pub in-town : ℕ → List Street → Bool

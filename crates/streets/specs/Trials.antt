@@ -1,17 +1,10 @@
 -- A test that a round is shortest, which goes through all rounds that use no street more than twice.
-use mathlib.Core.Path.{_≡_}
-use mathlib.Core.Bool.{Bool, true, false, not, _&&_, _||_}
-use mathlib.Core.List.{List, [], _∷_}
+use mathlib.Core.Bool.{Bool, true, not, _&&_, _||_}
+use mathlib.Core.List.{List}
 use Prim.Native.Nat.{ℕ, zero, suc, _-_, _*_}
 use lib.Dec.{ltb, leb, eqb}
 use lib.ListN.{length}
-use Rattle.streets.specs.Streets.{Street, joining, Leg, starts, stops, may-go, leg-long, how-long, mark, is-round}
-
-abbrev pub ahead : ℕ → Leg
-ahead i = record { along = i; back = false }
-
-abbrev pub back : ℕ → Leg
-back i = record { along = i; back = true }
+use Rattle.streets.specs.Streets.{Street, Leg, ahead, back, starts, stops, may-go, leg-long, how-long, mark, is-round}
 
 -- p holds of both legs along each street below n
 unfoldable pub every-leg : ℕ → (Leg → Bool) → Bool
