@@ -17,49 +17,62 @@ use Rattle.streets.proofs.Tests.{from-round}
 use Rattle.streets.proofs.Exchange.{Paired, again, exchange}
 
 module _ (W : Links) (law : Linking W) (ss : List Street) (spans : Spans W ss) where
-  -- one street more
-  pair-street : (t : ℕ → ℕ) (i : ℕ) → i < length ss → 0 < t i → Paired W (degree ss (λ j. t j - mark i j)) (stretch ss (λ j. t j - mark i j)) → Paired W (degree ss t) (stretch ss t)
-  pair-street t i l some r =
-      let less : ℕ → ℕ = λ j. t j - mark i j in
-      let s = street ss i in
-      let ps = r .pairs in
-      let split : (f : Street → ℕ) → weigh ss f t ≡ f s + weigh ss f less = λ f. omega (arith, weigh-split ss f t (mark i) less (λ j _. taken t i some j), weigh-one ss f i l) in
-      let x = exchange W law ps (r .pairing .linked) (λ k. omega (arith, r .pairing .each k)) (s .one) (s .other) (s .long) (spans i l) in
-      again W (λ k. ends-at ps k + ends s k) (degree ss t) (all-long ps + s .long) (stretch ss t) x
-      (λ k. omega (arith, r .pairing .each k, split (λ s. ends s k)))
-      (omega (arith, r .cost, split (λ s. s .long)))
-
-  no-street : (t : ℕ → ℕ) → weigh ss ones t ≤ 0 → Paired W (degree ss t) (stretch ss t)
+  none : (t : ℕ → ℕ) → weigh ss ones t ≤ 0 → Paired W (degree ss t) (stretch ss t)
   unfolding total
-  no-street t few = record { pairs = []; pairing = record { each = λ k. omega (arith, weigh-nothing ss (λ s. ends s k) t few); linked = tt }; cost = omega arith }
+  none t few = record { pairs = []; pairing = record { each = λ k. omega (arith, weigh-nothing ss (λ s. ends s k) t few); linked = tt }; cost = omega arith }
+
+  -- street i, and what t counts besides
+  module _ (t : ℕ → ℕ) (i : ℕ) (l : i < length ss) (some : 0 < t i) where
+    less : ℕ → ℕ
+    less j = t j - mark i j
+
+    split : (f : Street → ℕ) → weigh ss f t ≡ f (street ss i) + weigh ss f less
+    unfolding less
+    split f = omega (arith, weigh-split ss f t (mark i) less (λ j _. taken t i some j), weigh-one ss f i l)
+
+    one-street : Paired W (degree ss less) (stretch ss less) → Paired W (degree ss t) (stretch ss t)
+    one-street r =
+        let s = street ss i in
+        let once : (k : ℕ) → ends-at (r .pairs) k ≤ 1 = λ k. omega (arith, r .pairing .each k) in
+        again
+        (exchange W law (r .pairs) (r .pairing .linked) once (s .one) (s .other) (s .long) (spans i l))
+        (λ k. omega (arith, r .pairing .each k, split (λ s. ends s k)))
+        (omega (arith, r .cost, split (λ s. s .long)))
 
   pairs-within : (bound : ℕ) (t : ℕ → ℕ) → weigh ss ones t ≤ bound → Paired W (degree ss t) (stretch ss t)
-  pairs-within zero t few = no-street t few
+  pairs-within zero t few = none t few
   pairs-within (suc bound) t few =
       elim (cases-lt 0 (weigh ss ones t)) [
         | inl m ↦
             let r = some-street ss ones t m in
             let i = r .0 in
-            let less : ℕ → ℕ = λ j. t j - mark i j in
-            pair-street t i (r .1) (r .2) (pairs-within bound less (omega (arith, weigh-split ss ones t (mark i) less (λ j _. taken t i (r .2) j), weigh-one ss ones i (r .1))))
-        | inr m ↦ no-street t m
+            one-street t i (r .1) (r .2) (pairs-within bound (less t i (r .1) (r .2)) (omega (arith, split t i (r .1) (r .2) ones)))
+        | inr m ↦ none t m
       ]
 
-  -- a walk from x to y that uses each street at least as often as q says is as long as these, and as links between the corners where they and the walk's two ends are odd together
-  pub walk-below : (q : ℕ → ℕ) (x : ℕ) (ms : List Leg) (y : ℕ) → goes ss x ms y ≡ true → ((i : ℕ) → i < length ss → q i ≤ times ms i) →
+  -- A walk from x to y that uses street i at least q i times is no shorter than these uses and links that join in pairs the corners where they, with x and y, are odd
+  pub walk-below : (q : ℕ → ℕ) (x : ℕ) (ms : List Leg) (y : ℕ) →
+      goes ss x ms y ≡ true →
+      ((i : ℕ) → i < length ss → q i ≤ times ms i) →
       (ps : List Street) × Pairing W (λ k. (degree ss q k + (mark x k + mark y k)) % 2) ps × (stretch ss q + all-long ps ≤ how-long ss ms)
   walk-below q x ms y h need =
       let rest : ℕ → ℕ = λ i. times ms i - q i in
-      let split : (f : Street → ℕ) → weigh ss f (times ms) ≡ weigh ss f q + weigh ss f rest = λ f. weigh-split ss f (times ms) q rest (λ i l. omega (arith, need i l)) in
+      let split : (f : Street → ℕ) → weigh ss f (times ms) ≡ weigh ss f q + weigh ss f rest =
+      λ f. weigh-split ss f (times ms) q rest (λ i l. omega (arith, need i l)) in
       let r = pairs-within (weigh ss ones rest) rest (omega arith) in (
         r .pairs,
         record { each = λ k. omega (arith, r .pairing .each k, split (λ s. ends s k), parity ss x ms y h k); linked = r .pairing .linked },
         omega (arith, r .cost, split (λ s. s .long), by-counts ss x ms y h),
       )
 
-  -- a round has to use every street
-  pub round-below : (c : ℕ) (ms : List Leg) → is-round ss c ms ≡ true → (ps : List Street) × Pairing W (odd-once ss) ps × (all-long ss + all-long ps ≤ how-long ss ms)
+  -- a round uses every street, and starts where it stops
+  pub round-below : (c : ℕ) (ms : List Leg) →
+      is-round ss c ms ≡ true →
+      (ps : List Street) × Pairing W (odd-once ss) ps × (all-long ss + all-long ps ≤ how-long ss ms)
   round-below c ms h =
       let r = from-round ss c ms h in
-      let p = walk-below (λ _. 1) c ms c (r .walks) (r .covers) in
-      (p .0, record { each = λ k. omega (arith, p .1 .each k, weigh-ones ss (λ s. ends s k)); linked = p .1 .linked }, omega (arith, p .2, weigh-ones ss (λ s. s .long)))
+      let p = walk-below (λ _. 1) c ms c (r .walks) (r .covers) in (
+        p .0,
+        record { each = λ k. omega (arith, p .1 .each k, weigh-ones ss (λ s. ends s k)); linked = p .1 .linked },
+        omega (arith, p .2, weigh-ones ss (λ s. s .long)),
+      )

@@ -9,18 +9,15 @@ use lib.Dec.{eqb}
 use lib.ListN.{length}
 use Rattle.std.proofs.shelf.Tests.{cases-lt}
 use Rattle.std.proofs.shelf.Ways.{tells}
-use Rattle.streets.specs.Streets.{Street, street, Leg, how-long, times, is-round, mark, ends, total, ends-at}
+use Rattle.streets.specs.Streets.{Street, street, Leg, ahead, how-long, times, is-round, mark, ends, total, ends-at}
 use Rattle.streets.specs.Counts.{sum-below, weigh, degree, stretch, Connected}
 use Rattle.streets.specs.Theorems.{Joined, A-round, Never-thrice, From-anywhere, twice-gone, Joins-odd}
-use Rattle.streets.proofs.Sums.{weigh-split, weigh-same, weigh-le, weigh-some, weigh-front, weigh-ones, weigh-twos, weigh-parity, some-street}
+use Rattle.streets.proofs.Sums.{weigh-split, weigh-same, weigh-some, weigh-front, weigh-ones, weigh-twos, weigh-parity, some-street}
+use Rattle.streets.proofs.Legs.{starts-end}
 use Rattle.streets.proofs.Walks.{joined, times-append, long-append, by-counts, used-there, cut, walk-connected}
 use Rattle.streets.proofs.Parity.{parity}
 use Rattle.streets.proofs.Visits.{remade}
 use Rattle.streets.proofs.Tests.{from-round, to-round, positive-at}
-
--- counts that use every street
-pub joined-connected : (ss : List Street) (t : ℕ → ℕ) (c : ℕ) → Joined ss c → ((i : ℕ) → i < length ss → 0 < t i) → Connected ss t c
-joined-connected ss t c j all i l u = let r = j i l in (r .0, r .1, λ e v. all e (used-there ss c (r .0) (street ss i .one) e (r .1) v))
 
 pub record Remade (ss : List Street) (t : ℕ → ℕ) (c : ℕ) : Type 0 where
   pub legs : List Leg
@@ -28,23 +25,74 @@ pub record Remade (ss : List Street) (t : ℕ → ℕ) (c : ℕ) : Type 0 where
   pub counts : (i : ℕ) → i < length ss → times legs i ≡ t i
   pub long : how-long ss legs ≡ stretch ss t
 
--- the round that has given counts
-pub round-of : (ss : List Street) (t : ℕ → ℕ) (c : ℕ) → ((k : ℕ) → degree ss t k % 2 ≡ 0) → ((i : ℕ) → i < length ss → 0 < t i) → Connected ss t c → Remade ss t c
-round-of ss t c even all hang =
-    let r = remade ss t c c (λ k. omega (arith, even k)) hang in
-    record {
-      legs = r .0;
-      goes-all = to-round ss c (r .0) (record { walks = r .1; covers = λ i l. omega (arith, r .2 i l, all i l) });
-      counts = r .2;
-      long = by-counts ss c (r .0) c (r .1) ∙ weigh-same ss (λ s. s .long) (times (r .0)) t (r .2);
-    }
+-- each street once or twice, so that its count stays odd or even
+abbrev pub slim : ℕ → ℕ
+slim n = 2 - n % 2
 
--- a round reaches every street
-pub round-joins : (ss : List Street) (c : ℕ) (ls : List Leg) → is-round ss c ls ≡ true → Joined ss c
-round-joins ss c ls h i l =
-    let r = from-round ss c ls h in
-    let p = cut ss c ls c i (street ss i .one) (r .walks) (r .covers i l) (grind (arith, tells)) in
-    (p .before, p .to)
+module _ (ss : List Street) where
+  -- counts that use every street
+  pub joined-connected : (t : ℕ → ℕ) (c : ℕ) → Joined ss c → ((i : ℕ) → i < length ss → 0 < t i) → Connected ss t c
+  joined-connected t c j all i l u = let r = j i l in (r .0, r .1, λ e v. all e (used-there ss c (r .0) (street ss i .one) e (r .1) v))
+
+  -- the round that has given counts
+  pub round-of : (t : ℕ → ℕ) (c : ℕ) →
+      ((k : ℕ) → degree ss t k % 2 ≡ 0) →
+      ((i : ℕ) → i < length ss → 0 < t i) →
+      Connected ss t c →
+      Remade ss t c
+  round-of t c even all hang =
+      let r = remade ss t c c (λ k. omega (arith, even k)) hang in
+      record {
+        legs = r .0;
+        goes-all = to-round ss c (r .0) (record { walks = r .1; covers = λ i l. omega (arith, r .2 i l, all i l) });
+        counts = r .2;
+        long = by-counts ss c (r .0) c (r .1) ∙ weigh-same ss (λ s. s .long) (times (r .0)) t (r .2);
+      }
+
+  module _ (c : ℕ) (ls : List Leg) (h : is-round ss c ls ≡ true) where
+    -- a round reaches every street
+    pub round-joins : Joined ss c
+    round-joins i l =
+        let r = from-round ss c ls h in
+        let p = cut ss c ls c i (street ss i .one) (r .walks) (r .covers i l) (starts-end ss (ahead i)) in
+        (p .before, p .to)
+
+    pub round-even : (k : ℕ) → degree ss (times ls) k % 2 ≡ 0
+    round-even k = omega (arith, parity ss c ls c (from-round ss c ls h .walks) k)
+
+    -- out of any round, one that uses no street more than twice
+    pub slimmed : Remade ss (λ i. slim (times ls i)) c
+    slimmed =
+        let r = from-round ss c ls h in
+        let t : ℕ → ℕ = λ i. slim (times ls i) in
+        round-of t c
+        (λ k. omega (arith, round-even k, weigh-parity ss (λ s. ends s k) t (times ls) (λ i l. omega arith)))
+        (λ i l. omega arith)
+        (walk-connected ss c ls c t (r .walks) (λ i l. (λ _. omega arith, λ _. r .covers i l)))
+
+    -- what it is shorter by
+    pub slimmed-by : how-long ss ls ≡ how-long ss (slimmed .legs) + stretch ss (λ i. times ls i - slim (times ls i))
+    slimmed-by =
+        let r = from-round ss c ls h in
+        let t : ℕ → ℕ = λ i. slim (times ls i) in
+        let split = weigh-split ss (λ s. s .long) (times ls) t (λ i. times ls i - t i) (λ i l. omega (arith, r .covers i l)) in
+        omega (arith, slimmed .long, by-counts ss c ls c (r .walks))
+
+    -- the same round from another of its corners
+    rotated : (d : ℕ) → 0 < ends-at ss d → (ms : List Leg) × (is-round ss d ms ≡ true) × (how-long ss ms ≡ how-long ss ls)
+    rotated d e =
+        let r = from-round ss c ls h in
+        let f : Street → ℕ = λ s. ends s d in
+        let s = some-street ss f (λ _. 1) (omega (arith, weigh-ones ss f)) in
+        let p = cut ss c ls c (s .0) d (r .walks) (r .covers (s .0) (s .1)) (s .3) in
+        let a = p .before in
+        let b = p .behind in
+        let covers : (i : ℕ) → i < length ss → 0 < times (b ++ a) i =
+        λ i l. omega (arith, r .covers i l, times-append b a i, times-append a b i, ap (λ (ms : List Leg). times ms i) (p .whole)) in (
+          b ++ a,
+          to-round ss d (b ++ a) (record { walks = joined ss d b c a d (p .from) (p .to); covers = covers }),
+          omega (arith, long-append ss b a, long-append ss a b, ap (λ (ms : List Leg). how-long ss ms) (p .whole)),
+        )
 
 pub a-round : A-round
 a-round ss c = (
@@ -55,74 +103,22 @@ a-round ss c = (
   round-joins ss c,
 )
 
--- even degrees of a round
-pub round-even : (ss : List Street) (c : ℕ) (ls : List Leg) → is-round ss c ls ≡ true → (k : ℕ) → degree ss (times ls) k % 2 ≡ 0
-round-even ss c ls h k = omega (arith, parity ss c ls c (from-round ss c ls h .walks) k)
-
--- each street once or twice, so that its count stays odd or even
-abbrev pub slim : ℕ → ℕ
-slim n = 2 - n % 2
-
--- a round that uses no street more than twice, out of any round
-pub slimmed : (ss : List Street) (c : ℕ) (ls : List Leg) → is-round ss c ls ≡ true → Remade ss (λ i. slim (times ls i)) c
-slimmed ss c ls h =
-    let r = from-round ss c ls h in
-    let t : ℕ → ℕ = λ i. slim (times ls i) in
-    round-of ss t c
-    (λ k. omega (arith, round-even ss c ls h k, weigh-parity ss (λ s. ends s k) t (times ls) (λ i l. omega arith)))
-    (λ i l. omega arith)
-    (walk-connected ss c ls c t (r .walks) (λ i l. (λ _. omega arith, λ _. r .covers i l)))
-
-pub slimmed-long : (ss : List Street) (c : ℕ) (ls : List Leg) (h : is-round ss c ls ≡ true) → how-long ss (slimmed ss c ls h .legs) ≤ how-long ss ls
-slimmed-long ss c ls h =
-    let r = from-round ss c ls h in
-    omega (arith, slimmed ss c ls h .long, by-counts ss c ls c (r .walks), weigh-le ss (λ s. s .long) (λ i. slim (times ls i)) (times ls) (λ i l. omega (arith, r .covers i l)))
-
 pub never-thrice : Never-thrice
 never-thrice ss c i ls pos short =
     elim (cases-lt 2 (times ls i)) [
       | inl m ↦
           let h = short .goes-all in
-          let r = from-round ss c ls h in
-          let t : ℕ → ℕ = λ j. slim (times ls j) in
-          let less : ℕ → ℕ = λ j. times ls j - slim (times ls j) in
           let s = slimmed ss c ls h in
-          let f : Street → ℕ = λ s. s .long in
-          let l = used-there ss c ls c i (r .walks) (omega arith) in
-          absurd
-          (omega (
-            arith,
-            short .least (s .legs) (s .goes-all),
-            s .long,
-            by-counts ss c ls c (r .walks),
-            weigh-split ss f (times ls) t less (λ j k. omega (arith, r .covers j k)),
-            weigh-some ss f less i l (omega arith) (positive-at ss pos i l),
-          ))
+          let l = used-there ss c ls c i (from-round ss c ls h .walks) (omega arith) in
+          let less = weigh-some ss (λ s. s .long) (λ j. times ls j - slim (times ls j)) i l (omega arith) (positive-at ss pos i l) in
+          absurd (omega (arith, short .least (s .legs) (s .goes-all), slimmed-by ss c ls h))
       | inr m ↦ m
     ]
 
--- a round begun at another of its corners
-pub rotated : (ss : List Street) (c d : ℕ) (ls : List Leg) → is-round ss c ls ≡ true → 0 < ends-at ss d → (ms : List Leg) × (is-round ss d ms ≡ true) × (how-long ss ms ≡ how-long ss ls)
-rotated ss c d ls h e =
-    let r = from-round ss c ls h in
-    let f : Street → ℕ = λ s. ends s d in
-    let s = some-street ss f (λ _. 1) (omega (arith, weigh-ones ss f)) in
-    let p = cut ss c ls c (s .0) d (r .walks) (r .covers (s .0) (s .1)) (s .3) in
-    let a = p .before in
-    let b = p .behind in (
-      b ++ a,
-      to-round ss d (b ++ a)
-          (record {
-            walks = joined ss d b c a d (p .from) (p .to);
-            covers = λ i l. omega (arith, r .covers i l, times-append b a i, times-append a b i, ap (λ (ms : List Leg). times ms i) (p .whole));
-          }),
-      omega (arith, long-append ss b a, long-append ss a b, ap (λ (ms : List Leg). how-long ss ms) (p .whole)),
-    )
-
 pub from-anywhere : From-anywhere
 from-anywhere ss c d ls ms short other e f =
-    let r = rotated ss c d ls (short .goes-all) f in
-    let s = rotated ss d c ms (other .goes-all) e in
+    let r = rotated ss c ls (short .goes-all) d f in
+    let s = rotated ss d ms (other .goes-all) c e in
     omega (arith, r .2, s .2, short .least (s .0) (s .1), other .least (r .0) (r .1))
 
 kept : (f : Street → ℕ) (b : Bool) (s : Street) (ss : List Street) → total f (cond b (s ∷ ss) ss) ≡ cond b 1 0 * f s + total f ss
@@ -131,7 +127,9 @@ kept f true s ss = omega arith
 kept f false s ss = omega arith
 
 -- the streets with two legs, by counts
-twice-total : (f : Street → ℕ) (ss : List Street) (ls : List Leg) (j : ℕ) (t : ℕ → ℕ) → ((i : ℕ) → t i ≡ mark (times ls (j + i)) 2) → total f (twice-gone ss ls j) ≡ weigh ss f t
+twice-total : (f : Street → ℕ) (ss : List Street) (ls : List Leg) (j : ℕ) (t : ℕ → ℕ) →
+    ((i : ℕ) → t i ≡ mark (times ls (j + i)) 2) →
+    total f (twice-gone ss ls j) ≡ weigh ss f t
 unfolding total twice-gone weigh sum-below
 twice-total f [] ls j t e = refl
 twice-total f (s ∷ ss) ls j t e =
@@ -139,16 +137,18 @@ twice-total f (s ∷ ss) ls j t e =
     let here : t 0 ≡ mark (times ls j) 2 = e 0 ∙ ap (λ (k : ℕ). mark (times ls k) 2) (omega arith) in
     omega (arith, kept f (eqb (times ls j) 2) s (twice-gone ss ls (suc j)), weigh-front s ss f t, ap (λ (x : ℕ). x * f s) here)
 
+-- each street once, and some of them again
+once-and-again : (ss : List Street) (f : Street → ℕ) (ls : List Leg) →
+    ((i : ℕ) → i < length ss → (0 < times ls i) × (times ls i ≤ 2)) →
+    weigh ss f (times ls) ≡ total f ss + total f (twice-gone ss ls 0)
+once-and-again ss f ls few =
+    let t : ℕ → ℕ = λ i. mark (times ls i) 2 in
+    let split = weigh-split ss f (times ls) (λ _. 1) t (λ i l. let a = few i l in grind (arith, tells)) in
+    omega (arith, weigh-ones ss f, twice-total f ss ls 0 t (λ i. ap (λ (k : ℕ). mark (times ls k) 2) (omega arith)))
+
 pub joins-odd : Joins-odd
 joins-odd ss c k ls pos short =
-    let r = from-round ss c ls (short .goes-all) in
-    let t : ℕ → ℕ = λ i. mark (times ls i) 2 in
-    let split : (f : Street → ℕ) → weigh ss f (times ls) ≡ total f ss + total f (twice-gone ss ls 0) =
-    λ f.
-    omega (
-      arith,
-      weigh-split ss f (times ls) (λ _. 1) t (λ i l. let a = r .covers i l in let b = never-thrice ss c i ls pos short in grind (arith, tells)),
-      weigh-ones ss f,
-      twice-total f ss ls 0 t (λ i. ap (λ (k : ℕ). mark (times ls k) 2) (omega arith)),
-    ) in
-    (omega (arith, split (λ s. ends s k), round-even ss c ls (short .goes-all) k), by-counts ss c ls c (r .walks) ∙ split (λ s. s .long))
+    let h = short .goes-all in
+    let r = from-round ss c ls h in
+    let split = λ (f : Street → ℕ). once-and-again ss f ls (λ i l. (r .covers i l, never-thrice ss c i ls pos short)) in
+    (omega (arith, split (λ s. ends s k), round-even ss c ls h k), by-counts ss c ls c (r .walks) ∙ split (λ s. s .long))

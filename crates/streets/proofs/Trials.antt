@@ -18,7 +18,7 @@ use Rattle.streets.proofs.Legs.{there}
 use Rattle.streets.proofs.Walks.{step, go-on, stands, stay, used-there}
 use Rattle.streets.proofs.Counts.{few-legs}
 use Rattle.streets.proofs.Tests.{from-round, to-round}
-use Rattle.streets.proofs.Rounds.{a-round, slimmed, slimmed-long}
+use Rattle.streets.proofs.Rounds.{a-round, slimmed, slimmed-by}
 
 all-used-decides : (left : ℕ → ℕ) (n : ℕ) → Decides (all-used left n) ((i : ℕ) → i < n → left i < 2)
 unfolding all-used
@@ -185,7 +185,7 @@ passed ss c ls h =
           let twice : at-most-twice (r .legs) (length ss) = λ i l. omega (arith, r .counts i l) in
           let ends : Completes ss c (λ _. 2) c (r .legs) =
           record { walks = s .walks; within = twice-everywhere ss c (r .legs) c (s .walks) twice; enough = λ i l. omega (arith, s .covers i l) } in
-          omega (arith, slimmed-long ss c ms g, none-is-below ss c (2 * length ss) (λ _. 2) c (how-long ss ls) (r .legs) (p .1) ends (few-legs ss c (r .legs) c (s .walks) twice));
+          omega (arith, slimmed-by ss c ms g, none-is-below ss c (2 * length ss) (λ _. 2) c (how-long ss ls) (r .legs) (p .1) ends (few-legs ss c (r .legs) c (s .walks) twice));
     }
 
 pub tried-shortest : Tried

@@ -9,10 +9,10 @@ use lib.Dec.{eqb}
 use lib.ListN.{length}
 use Rattle.std.proofs.shelf.Tests.{and-parts, and-from, eqb-true, eq-eqb, cases-lt}
 use Rattle.std.proofs.shelf.Ways.{tells}
-use Rattle.streets.specs.Streets.{Street, street, Leg, may-go, goes, starts, stops, how-long, mark, times, ends}
+use Rattle.streets.specs.Streets.{Street, street, Leg, ahead, may-go, goes, starts, stops, how-long, mark, times, ends}
 use Rattle.streets.specs.Counts.{weigh, stretch, Connected}
 use Rattle.streets.proofs.Sums.{weigh-split, weigh-one}
-use Rattle.streets.proofs.Legs.{there, as-long, leg-at}
+use Rattle.streets.proofs.Legs.{there, as-long, starts-end, leg-at}
 
 -- a walk by its first leg
 pub record Step (ss : List Street) (c : ℕ) (l : Leg) (ls : List Leg) (d : ℕ) : Type 0 where
@@ -127,5 +127,5 @@ module _ (ss : List Street) where
   pub walk-connected : (c : ℕ) (ls : List Leg) (d : ℕ) (t : ℕ → ℕ) → goes ss c ls d ≡ true → ((i : ℕ) → i < length ss → 0 < times ls i ↔ 0 < t i) → Connected ss t c
   walk-connected c ls d t h same i l u =
       let a = street ss i .one in
-      let r = cut c ls d i a h (same i l .1 u) (grind (arith, tells)) in
+      let r = cut c ls d i a h (same i l .1 u) (starts-end ss (ahead i)) in
       (r .before, r .to, λ e v. same e (used-there c (r .before) a e (r .to) v) .0 (omega (arith, times-append (r .before) (r .behind) e, ap (λ (ms : List Leg). times ms e) (r .whole))))
