@@ -11,23 +11,32 @@ unfoldable pub every-leg : ℕ → (Leg → Bool) → Bool
 every-leg zero p = true
 every-leg (suc n) p = (p (ahead n) && p (back n)) && every-leg n p
 
--- of two legs for each street below n at most one is left
+-- of two uses of each street below n at most one is left
 unfoldable pub all-used : (ℕ → ℕ) → ℕ → Bool
 all-used left zero = true
 all-used left (suc n) = ltb (left n) 2 && all-used left n
 
--- a leg is not there, or `on` holds after it. What a `let` names is computed only where it is asked for
+-- a round from c is complete at v, where `left` says how often each street may still be used
+abbrev pub complete : List Street → ℕ → (ℕ → ℕ) → ℕ → Bool
+complete ss c left v = eqb v c && all-used left (length ss)
+
+-- l can be the next leg from v
+abbrev pub can-go : List Street → (ℕ → ℕ) → ℕ → Leg → Bool
+can-go ss left v l = may-go ss l && (ltb 0 (left (l .along)) && eqb (starts ss l) v)
+
+-- l can't be the next leg, or `on` holds after it. What a `let` names is computed only where it is asked for
 abbrev pub next : List Street → ((ℕ → ℕ) → ℕ → ℕ → Bool) → (ℕ → ℕ) → ℕ → ℕ → Leg → Bool
 next ss on left v b l =
     let after = on (λ i. left i - mark (l .along) i) (stops ss l) (b - leg-long ss l) in
-    not (may-go ss l && (ltb 0 (left (l .along)) && eqb (starts ss l) v)) || after
+    not (can-go ss left v l) || after
 
--- no walk from v to c completes a round at a length below b, if it uses street i at most `left i` times and has at most m legs
+-- no walk of at most m legs from v completes a round from c at a length below b
 unfoldable pub none-below : List Street → ℕ → ℕ → (ℕ → ℕ) → ℕ → ℕ → Bool
-none-below ss c zero left v b = leb b 0 || (not (eqb v c && all-used left (length ss)) && true)
+none-below ss c zero left v b = leb b 0 || (not (complete ss c left v) && true)
 none-below ss c (suc m) left v b =
     let longer = every-leg (length ss) (next ss (none-below ss c m) left v b) in
-    leb b 0 || (not (eqb v c && all-used left (length ss)) && longer)
+    leb b 0 || (not (complete ss c left v) && longer)
 
+-- ls is a round from c, and no round that uses each street at most twice is shorter
 unfoldable pub tried : List Street → ℕ → List Leg → Bool
 tried ss c ls = is-round ss c ls && none-below ss c (2 * length ss) (λ _. 2) c (how-long ss ls)
