@@ -10,11 +10,11 @@ use lib.ListN.{length}
 use Rattle.std.proofs.shelf.Tests.{and-parts, ltb-true, cases-lt}
 use Rattle.std.proofs.shelf.Ways.{tells}
 use Rattle.streets.specs.Streets.{Street, times, mark, ends, total, ends-at, odd-corners}
-use Rattle.streets.specs.Counts.{sum-below}
+use Rattle.streets.specs.Counts.{sum-below, degree}
 use Rattle.streets.specs.Theorems.{in-town, Once-each, In-pairs}
 use Rattle.streets.proofs.Sums.{sum-split, sum-same, sum-none, sum-parity, sum-mark, part-le, weigh-same, weigh-ones}
 use Rattle.streets.proofs.Tests.{odd-sum, once-each-decides}
-use Rattle.streets.proofs.Rounds.{round-of, round-even, round-joins, joined-connected}
+use Rattle.streets.proofs.Rounds.{joined-round, round-even, round-joins}
 
 town-parts : (n : ℕ) (s : Street) (ss : List Street) → in-town n (s ∷ ss) ≡ true → (s .one < n) × (s .other < n) × (in-town n ss ≡ true)
 unfolding in-town
@@ -61,8 +61,8 @@ even-all ss n h none k =
 pub once-each : Once-each
 once-each ss n c town = (
   (λ p.
-      let t : ℕ → ℕ = λ _. 1 in
-      let r = round-of ss t c (λ k. omega (arith, weigh-ones ss (λ s. ends s k), even-all ss n town (p .0) k)) (λ i l. omega arith) (joined-connected ss t c (p .1) (λ i l. omega arith)) in
+      let even : (k : ℕ) → degree ss (λ _. 1) k % 2 ≡ 0 = λ k. omega (arith, weigh-ones ss (λ s. ends s k), even-all ss n town (p .0) k) in
+      let r = joined-round ss (λ _. 1) c (p .1) even (λ i l. omega arith) in
       (r .legs, r .goes-all, once-each-decides (r .legs) (length ss) .1 (r .counts))),
   λ r.
       let ls = r .0 in

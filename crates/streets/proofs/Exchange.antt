@@ -54,7 +54,7 @@ module _ (W : Links) (law : Linking W) where
         | inr d ↦ record { pairs = joining a b n ∷ []; pairing = record { each = λ k. grind (arith, tells); linked = (w, tt) }; cost = omega arith }
       ]
 
-  -- Pairs that have each corner at most once, and a link from a to b. The link is pushed down the list, and where it shares an end with a pair, that pair goes and the two are joined
+  -- The link is pushed down the list of pairs. Where it shares an end with one, that pair goes, and the two are joined
   pub exchange : (ps : List Street) →
       All (λ p. W (p .one) (p .other) (p .long)) ps →
       ((k : ℕ) → ends-at ps k ≤ 1) →

@@ -26,7 +26,7 @@ way-spans ss i l = let e : Leg = record { along = i; back = false } in (e ∷ []
 pub metric-links : (d : ℕ → ℕ → ℕ) → Metric d → Linking (No-shorter d)
 metric-links d m = record { turned = λ a b n w. omega (arith, m .turned a b); joined = λ a b c x y v w. omega (arith, m .joined a b c) }
 
--- a way that can be had, or none
+-- symmetric by walks reversed, with the triangle inequality by walks joined
 pub ways-metric : (ss : List Street) → Both-ways ss → (cap : ℕ) (d : ℕ → ℕ → ℕ) → Shortest-ways ss cap d → Metric d
 unfolding how-long
 ways-metric ss both cap d w =

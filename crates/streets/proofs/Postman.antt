@@ -2,10 +2,11 @@
 use mathlib.Core.Path.{_≡_}
 use mathlib.Core.Bool.{true}
 use mathlib.Core.List.{List}
-use Prim.Native.Nat.{ℕ, _+_, _≤_, _<_}
+use Prim.Native.Nat.{ℕ, _+_, _%_, _≤_}
 use native.Mathlib.Omega.{arith}
 use lib.ListN.{length}
 use Rattle.streets.specs.Streets.{Street, Leg, is-round, how-long, ends, all-long, at-most-twice}
+use Rattle.streets.specs.Counts.{degree}
 use Rattle.streets.specs.Calls.{Shortest}
 use Rattle.streets.specs.Pairs.{Way, No-shorter}
 use Rattle.streets.specs.Theorems.{Joined, Pairs-below, Metric-below, Pairs-above, Cheapest, Postman}
@@ -14,7 +15,7 @@ use Rattle.streets.proofs.Reversal.{both-ways}
 use Rattle.streets.proofs.Links.{way-links, way-spans, metric-links}
 use Rattle.streets.proofs.Below.{round-below}
 use Rattle.streets.proofs.Switching.{switched-pairs}
-use Rattle.streets.proofs.Rounds.{round-of, joined-connected}
+use Rattle.streets.proofs.Rounds.{joined-round}
 use Rattle.streets.proofs.Trials.{some-shortest}
 
 pub pairs-below : Pairs-below
@@ -27,12 +28,14 @@ pub pairs-above : Pairs-above
 pairs-above ss c ps j pairing =
     let s = switched-pairs ss (λ _. 1) ps (λ i l. (omega arith, omega arith)) (pairing .linked) in
     let u = s .0 in
-    let some : (i : ℕ) → i < length ss → 0 < u i = λ i l. s .1 .still i l .0 in
-    let r = round-of ss u c (λ k. omega (arith, s .1 .parity k, weigh-ones ss (λ s. ends s k), pairing .each k)) some (joined-connected ss u c j some) in
+    let even : (k : ℕ) → degree ss u k % 2 ≡ 0 = λ k. omega (arith, s .1 .parity k, weigh-ones ss (λ s. ends s k), pairing .each k) in
+    let r = joined-round ss u c j even (λ i l. s .1 .still i l .0) in
     (r .legs, r .goes-all, λ i l. omega (arith, r .counts i l, s .1 .still i l), omega (arith, r .long, s .1 .cost, weigh-ones ss (λ s. s .long)))
 
 -- a shortest round is as long as all streets and the cheapest pairs
-cheapest-round : (ss : List Street) (c : ℕ) → Joined ss c → (ps : List Street) → Cheapest ss ps → (ls : List Leg) × Shortest ss c ls × at-most-twice ls (length ss) × (how-long ss ls ≡ all-long ss + all-long ps)
+cheapest-round : (ss : List Street) (c : ℕ) →
+    Joined ss c →
+    (ps : List Street) → Cheapest ss ps → (ls : List Leg) × Shortest ss c ls × at-most-twice ls (length ss) × (how-long ss ls ≡ all-long ss + all-long ps)
 cheapest-round ss c j ps cheapest =
     let r = pairs-above ss c ps j (cheapest .pairing) in
     let bound : (ms : List Leg) → is-round ss c ms ≡ true → all-long ss + all-long ps ≤ how-long ss ms =

@@ -30,10 +30,6 @@ abbrev pub slim : ℕ → ℕ
 slim n = 2 - n % 2
 
 module _ (ss : List Street) where
-  -- counts that use every street
-  pub joined-connected : (t : ℕ → ℕ) (c : ℕ) → Joined ss c → ((i : ℕ) → i < length ss → 0 < t i) → Connected ss t c
-  joined-connected t c j all i l u = let r = j i l in (r .0, r .1, λ e v. all e (used-there ss c (r .0) (street ss i .one) e (r .1) v))
-
   -- the round that has given counts
   pub round-of : (t : ℕ → ℕ) (c : ℕ) →
       ((k : ℕ) → degree ss t k % 2 ≡ 0) →
@@ -48,6 +44,10 @@ module _ (ss : List Street) where
         counts = r .2;
         long = by-counts ss c (r .0) c (r .1) ∙ weigh-same ss (λ s. s .long) (times (r .0)) t (r .2);
       }
+
+  pub joined-round : (t : ℕ → ℕ) (c : ℕ) → Joined ss c → ((k : ℕ) → degree ss t k % 2 ≡ 0) → ((i : ℕ) → i < length ss → 0 < t i) → Remade ss t c
+  joined-round t c j even all =
+      round-of t c even all (λ i l u. let r = j i l in (r .0, r .1, λ e v. all e (used-there ss c (r .0) (street ss i .one) e (r .1) v)))
 
   module _ (c : ℕ) (ls : List Leg) (h : is-round ss c ls ≡ true) where
     -- a round reaches every street
@@ -97,8 +97,7 @@ module _ (ss : List Street) where
 pub a-round : A-round
 a-round ss c = (
   (λ j.
-      let t : ℕ → ℕ = λ _. 2 in
-      let r = round-of ss t c (λ k. omega (arith, weigh-twos ss (λ s. ends s k))) (λ i l. omega arith) (joined-connected ss t c j (λ i l. omega arith)) in
+      let r = joined-round ss (λ _. 2) c j (λ k. omega (arith, weigh-twos ss (λ s. ends s k))) (λ i l. omega arith) in
       (r .legs, r .goes-all, omega (arith, r .long, weigh-twos ss (λ s. s .long)))),
   round-joins ss c,
 )

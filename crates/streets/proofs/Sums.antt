@@ -35,13 +35,21 @@ sum-parity f g (suc n) e = let r = sum-parity f g n (λ i l. e i (omega arith)) 
 pub part-le : (f : ℕ → ℕ) (n i : ℕ) → i < n → f i ≤ sum-below f n
 unfolding sum-below
 part-le f zero i l = omega arith
-part-le f (suc n) i l = let r = part-le f n i in elim (cases-lt i n) [ inl m ↦ omega (arith, r m) | inr m ↦ let e : i ≡ n = omega arith in omega (arith, ap f e) ]
+part-le f (suc n) i l =
+    elim (cases-lt i n) [
+      | inl m ↦ omega (arith, part-le f n i m)
+      | inr m ↦ let e : i ≡ n = omega arith in omega (arith, ap f e)
+    ]
 
 -- a sum that is not 0 has a part that is not 0
 pub some-part : (f : ℕ → ℕ) (n : ℕ) → 0 < sum-below f n → (i : ℕ) × (i < n) × (0 < f i)
 unfolding sum-below
 some-part f zero h = absurd (omega arith)
-some-part f (suc n) h = elim (cases-lt 0 (f n)) [ inl m ↦ (n, omega arith, m) | inr m ↦ let r = some-part f n (omega arith) in (r .0, omega (arith, r .1), r .2) ]
+some-part f (suc n) h =
+    elim (cases-lt 0 (f n)) [
+      | inl m ↦ (n, omega arith, m)
+      | inr m ↦ let r = some-part f n (omega arith) in (r .0, omega (arith, r .1), r .2)
+    ]
 
 sum-mark-past : (a n : ℕ) (f : ℕ → ℕ) → n ≤ a → sum-below (λ i. mark a i * f i) n ≡ 0
 unfolding sum-below
@@ -51,12 +59,19 @@ sum-mark-past a (suc n) f l = let r = sum-mark-past a n f (omega arith) in grind
 pub sum-mark : (a n : ℕ) (f : ℕ → ℕ) → a < n → sum-below (λ i. mark a i * f i) n ≡ f a
 unfolding sum-below
 sum-mark a zero f l = absurd (omega arith)
-sum-mark a (suc n) f l = elim (cases-lt a n) [ inl m ↦ let r = sum-mark a n f m in grind (arith, tells) | inr m ↦ let e : a ≡ n = omega arith in let r = sum-mark-past a n f (omega arith) in grind (arith, tells) ]
+sum-mark a (suc n) f l =
+    elim (cases-lt a n) [
+      | inl m ↦ let r = sum-mark a n f m in grind (arith, tells)
+      | inr m ↦ let e : a ≡ n = omega arith in let r = sum-mark-past a n f (omega arith) in grind (arith, tells)
+    ]
 
 -- counts with one more at e
 pub one-more : (t u : ℕ → ℕ) (e : ℕ) → u e ≡ t e + 1 → ((i : ℕ) → (e ≡ i → ⊥) → u i ≡ t i) → (i : ℕ) → u i ≡ mark e i + t i
 one-more t u e more else-same i =
-    elim (cases-eq e i) [ inl same ↦ let a = ap t same in let b = ap u same in grind (arith, tells) | inr n ↦ let z = else-same i n in grind (arith, tells) ]
+    elim (cases-eq e i) [
+      | inl same ↦ let a = ap t same in let b = ap u same in grind (arith, tells)
+      | inr n ↦ let z = else-same i n in grind (arith, tells)
+    ]
 
 -- counts with one taken away at e
 pub taken : (t : ℕ → ℕ) (e : ℕ) → 0 < t e → (i : ℕ) → t i ≡ mark e i + (t i - mark e i)
@@ -74,40 +89,46 @@ factors (suc a) zero h = absurd (omega arith)
 factors (suc a) (suc b) h = omega arith
 
 module _ (ss : List Street) (f : Street → ℕ) where
+  each : (ℕ → ℕ) → ℕ → ℕ
+  each t i = t i * f (street ss i)
+
   pub weigh-split : (t u v : ℕ → ℕ) → ((i : ℕ) → i < length ss → t i ≡ u i + v i) → weigh ss f t ≡ weigh ss f u + weigh ss f v
-  unfolding weigh
-  weigh-split t u v e = sum-split (λ i. t i * f (street ss i)) (λ i. u i * f (street ss i)) (λ i. v i * f (street ss i)) (length ss) (λ i l. omega (arith, ap (λ (x : ℕ). x * f (street ss i)) (e i l)))
+  unfolding weigh each
+  weigh-split t u v e = sum-split (each t) (each u) (each v) (length ss) (λ i l. omega (arith, ap (λ (x : ℕ). x * f (street ss i)) (e i l)))
 
   pub weigh-same : (t u : ℕ → ℕ) → ((i : ℕ) → i < length ss → t i ≡ u i) → weigh ss f t ≡ weigh ss f u
-  unfolding weigh
-  weigh-same t u e = sum-same (λ i. t i * f (street ss i)) (λ i. u i * f (street ss i)) (length ss) (λ i l. ap (λ (x : ℕ). x * f (street ss i)) (e i l))
+  unfolding weigh each
+  weigh-same t u e = sum-same (each t) (each u) (length ss) (λ i l. ap (λ (x : ℕ). x * f (street ss i)) (e i l))
 
   pub weigh-le : (t u : ℕ → ℕ) → ((i : ℕ) → i < length ss → t i ≤ u i) → weigh ss f t ≤ weigh ss f u
-  unfolding weigh
-  weigh-le t u h = sum-le (λ i. t i * f (street ss i)) (λ i. u i * f (street ss i)) (length ss) (λ i l. mul-le-mul-right {m = t i} {n = u i} (f (street ss i)) (h i l))
+  unfolding weigh each
+  weigh-le t u h = sum-le (each t) (each u) (length ss) (λ i l. mul-le-mul-right {m = t i} {n = u i} (f (street ss i)) (h i l))
 
   -- counts that are odd at the same streets
   pub weigh-parity : (t u : ℕ → ℕ) → ((i : ℕ) → i < length ss → t i % 2 ≡ u i % 2) → weigh ss f t % 2 ≡ weigh ss f u % 2
   weigh-parity t u e = omega (arith, halves t, halves u, weigh-same (λ i. t i % 2) (λ i. u i % 2) e)
     where
       halves : (t : ℕ → ℕ) → weigh ss f t ≡ weigh ss f (λ i. t i % 2) + 2 * weigh ss f (λ i. t i / 2)
-      halves t = omega (arith, weigh-split t (λ i. t i % 2) (λ i. 2 * (t i / 2)) (λ i l. omega arith), weigh-split (λ i. 2 * (t i / 2)) (λ i. t i / 2) (λ i. t i / 2) (λ i l. omega arith))
+      halves t =
+          let half : ℕ → ℕ = λ i. t i / 2 in
+          let both : ℕ → ℕ = λ i. half i + half i in
+          omega (arith, weigh-split t (λ i. t i % 2) both (λ i l. omega arith), weigh-split both half half (λ i l. refl))
 
   pub weigh-one : (e : ℕ) → e < length ss → weigh ss f (mark e) ≡ f (street ss e)
   unfolding weigh
   weigh-one e l = sum-mark e (length ss) (λ i. f (street ss i)) l
 
   pub weigh-part : (t : ℕ → ℕ) (i : ℕ) → i < length ss → t i * f (street ss i) ≤ weigh ss f t
-  unfolding weigh
-  weigh-part t i l = part-le (λ i. t i * f (street ss i)) (length ss) i l
+  unfolding weigh each
+  weigh-part t i l = part-le (each t) (length ss) i l
 
   pub weigh-some : (t : ℕ → ℕ) (i : ℕ) → i < length ss → 0 < t i → 0 < f (street ss i) → 0 < weigh ss f t
   weigh-some t i l p q = omega (arith, weigh-part t i l, mul-pos {m = t i} {n = f (street ss i)} p q)
 
   pub some-street : (t : ℕ → ℕ) → 0 < weigh ss f t → (i : ℕ) × (i < length ss) × (0 < t i) × (0 < f (street ss i))
-  unfolding weigh
+  unfolding weigh each
   some-street t h =
-      let r = some-part (λ i. t i * f (street ss i)) (length ss) h in
+      let r = some-part (each t) (length ss) h in
       let p = factors (t (r .0)) (f (street ss (r .0))) (r .2) in
       (r .0, r .1, p .0, p .1)
 
@@ -118,8 +139,10 @@ ones _ = 1
 -- nothing is counted
 pub weigh-nothing : (ss : List Street) (f : Street → ℕ) (t : ℕ → ℕ) → weigh ss ones t ≤ 0 → weigh ss f t ≡ 0
 weigh-nothing ss f t h =
-    elim (cases-lt 0 (weigh ss f t))
-    [ inl m ↦ let r = some-street ss f t m in absurd (omega (arith, weigh-part ss ones t (r .0) (r .1), r .2)) | inr m ↦ omega arith ]
+    elim (cases-lt 0 (weigh ss f t)) [
+      | inl m ↦ let r = some-street ss f t m in absurd (omega (arith, weigh-part ss ones t (r .0) (r .1), r .2))
+      | inr m ↦ omega arith
+    ]
 
 pub weigh-front : (s : Street) (ss : List Street) (f : Street → ℕ) (t : ℕ → ℕ) → weigh (s ∷ ss) f t ≡ t 0 * f s + weigh ss f (λ i. t (suc i))
 unfolding weigh

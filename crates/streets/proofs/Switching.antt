@@ -63,7 +63,10 @@ module _ (ss : List Street) where
   switch : (ℕ → ℕ) → ℕ → ℕ → ℕ
   switch t e i = cond (eqb e i) (3 - t i) (t i)
 
-  switched-leg : (t : ℕ → ℕ) (l : Leg) → Once-or-twice t → may-go ss l ≡ true → Switched ss t (λ k. mark (starts ss l) k + mark (stops ss l) k) (leg-long ss l) (switch t (l .along))
+  switched-leg : (t : ℕ → ℕ) (l : Leg) →
+      Once-or-twice t →
+      may-go ss l ≡ true →
+      Switched ss t (λ k. mark (starts ss l) k + mark (stops ss l) k) (leg-long ss l) (switch t (l .along))
   unfolding switch
   switched-leg t l once may =
       let e = l .along in

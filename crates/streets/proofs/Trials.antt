@@ -111,7 +111,10 @@ module _ (ss : List Street) (c : ℕ) where
           short = some;
         }
 
-    found-on : (b : ℕ) (l : Leg) → can-go ss left v l ≡ true → Found ss c (λ i. left i - mark (l .along) i) (stops ss l) (b - leg-long ss l) → Found ss c left v b
+    found-on : (b : ℕ) (l : Leg) →
+        can-go ss left v l ≡ true →
+        Found ss c (λ i. left i - mark (l .along) i) (stops ss l) (b - leg-long ss l) →
+        Found ss c left v b
     unfolding how-long times
     found-on b l h r =
         let p = and-parts (may-go ss l) (ltb 0 (left (l .along)) && eqb (starts ss l) v) h in
@@ -124,7 +127,11 @@ module _ (ss : List Street) (c : ℕ) where
         }
 
   -- where the test holds, no walk completes a round at a length below b
-  none-found : (m : ℕ) (left : ℕ → ℕ) (v b : ℕ) (ls : List Leg) → none-below ss c m left v b ≡ true → Completes ss c left v ls → length ls ≤ m → b ≤ how-long ss ls
+  none-found : (m : ℕ) (left : ℕ → ℕ) (v b : ℕ) (ls : List Leg) →
+      none-below ss c m left v b ≡ true →
+      Completes ss c left v ls →
+      length ls ≤ m →
+      b ≤ how-long ss ls
   unfolding none-below how-long
   none-found zero left v b [] t h few =
       elim (held b (complete ss c left v) true t) [ inl z ↦ z | inr p ↦ absurd (both-ways (complete ss c left v) (p .0) (no-leg left v h)) ]
@@ -188,7 +195,10 @@ module _ (ss : List Street) (c : ℕ) where
       omega (arith, slimmed-by ss c ms g, none-found (2 * length ss) (λ _. 2) c b (r .legs) (p .1) (among (r .legs) (r .goes-all) twice) few) in
       record { goes-all = p .0; least = least }
 
-  shorter : (ls : List Leg) → is-round ss c ls ≡ true → tried ss c ls ≡ false → (ms : List Leg) × (is-round ss c ms ≡ true) × (how-long ss ms < how-long ss ls)
+  shorter : (ls : List Leg) →
+      is-round ss c ls ≡ true →
+      tried ss c ls ≡ false →
+      (ms : List Leg) × (is-round ss c ms ≡ true) × (how-long ss ms < how-long ss ls)
   unfolding tried
   shorter ls h t =
       let b = how-long ss ls in

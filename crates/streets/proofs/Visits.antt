@@ -42,7 +42,10 @@ module _ (ss : List Street) where
       (split : (i : ℕ) → left i ≡ mark (l .along) i + less i)
     where
       -- a leg, what its other corner gives, then what is still left here
-      pub join : {on home : List Leg} {rest last : ℕ → ℕ} → Visit ss less (stops ss l) w on rest → Visit ss rest v v home last → Visit ss left v w (home ++ l ∷ on) last
+      pub join : {on home : List Leg} {rest last : ℕ → ℕ} →
+          Visit ss less (stops ss l) w on rest →
+          Visit ss rest v v home last →
+          Visit ss left v w (home ++ l ∷ on) last
       unfolding times
       join {on} {home} {rest} {last} first second =
           record {

@@ -43,7 +43,9 @@ module _ (ss : List Street) where
 
   pub go-on : (c : ℕ) (l : Leg) (ls : List Leg) (d : ℕ) → Step ss c l ls d → goes ss c (l ∷ ls) d ≡ true
   unfolding goes
-  go-on c l ls d s = and-from (may-go ss l && eqb (starts ss l) c) (goes ss (stops ss l) ls d) (and-from (may-go ss l) (eqb (starts ss l) c) (s .may) (eq-eqb (starts ss l) c (s .here))) (s .on)
+  go-on c l ls d s =
+      let first = and-from (may-go ss l) (eqb (starts ss l) c) (s .may) (eq-eqb (starts ss l) c (s .here)) in
+      and-from (may-go ss l && eqb (starts ss l) c) (goes ss (stops ss l) ls d) first (s .on)
 
   pub stands : (c d : ℕ) → goes ss c [] d ≡ true → c ≡ d
   unfolding goes
@@ -53,7 +55,10 @@ module _ (ss : List Street) where
   unfolding goes
   stay c = eq-eqb c c refl
 
-  pub joined : (c : ℕ) (ls : List Leg) (d : ℕ) (ms : List Leg) (e : ℕ) → goes ss c ls d ≡ true → goes ss d ms e ≡ true → goes ss c (ls ++ ms) e ≡ true
+  pub joined : (c : ℕ) (ls : List Leg) (d : ℕ) (ms : List Leg) (e : ℕ) →
+      goes ss c ls d ≡ true →
+      goes ss d ms e ≡ true →
+      goes ss c (ls ++ ms) e ≡ true
   joined c [] d ms e h k = rw (stands c d h) k
   joined c (l ∷ ls) d ms e h k =
       let s = step c l ls d h in
@@ -72,9 +77,13 @@ module _ (ss : List Street) where
   unfolding times
   weigh-none f = let e = weigh-split ss f (times []) (times []) (times []) (λ i l. refl) in omega arith
 
-  pub weigh-leg : (f : Street → ℕ) (l : Leg) (ls : List Leg) → may-go ss l ≡ true → weigh ss f (times (l ∷ ls)) ≡ f (street ss (l .along)) + weigh ss f (times ls)
+  pub weigh-leg : (f : Street → ℕ) (l : Leg) (ls : List Leg) →
+      may-go ss l ≡ true →
+      weigh ss f (times (l ∷ ls)) ≡ f (street ss (l .along)) + weigh ss f (times ls)
   unfolding times
-  weigh-leg f l ls h = omega (arith, weigh-split ss f (times (l ∷ ls)) (mark (l .along)) (times ls) (λ i _. refl), weigh-one ss f (l .along) (there ss l h))
+  weigh-leg f l ls h =
+      let split = weigh-split ss f (times (l ∷ ls)) (mark (l .along)) (times ls) (λ i _. refl) in
+      omega (arith, weigh-one ss f (l .along) (there ss l h))
 
   -- a walk is as long as its counts say
   pub by-counts : (c : ℕ) (ls : List Leg) (d : ℕ) → goes ss c ls d ≡ true → how-long ss ls ≡ stretch ss (times ls)
@@ -124,8 +133,13 @@ module _ (ss : List Street) where
       ]
 
   -- counts of the same streets as a walk's hang together
-  pub walk-connected : (c : ℕ) (ls : List Leg) (d : ℕ) (t : ℕ → ℕ) → goes ss c ls d ≡ true → ((i : ℕ) → i < length ss → 0 < times ls i ↔ 0 < t i) → Connected ss t c
+  pub walk-connected : (c : ℕ) (ls : List Leg) (d : ℕ) (t : ℕ → ℕ) →
+      goes ss c ls d ≡ true →
+      ((i : ℕ) → i < length ss → 0 < times ls i ↔ 0 < t i) →
+      Connected ss t c
   walk-connected c ls d t h same i l u =
       let a = street ss i .one in
       let r = cut c ls d i a h (same i l .1 u) (starts-end ss (ahead i)) in
-      (r .before, r .to, λ e v. same e (used-there c (r .before) a e (r .to) v) .0 (omega (arith, times-append (r .before) (r .behind) e, ap (λ (ms : List Leg). times ms e) (r .whole))))
+      let used : (e : ℕ) → 0 < times (r .before) e → 0 < times ls e =
+      λ e v. omega (arith, times-append (r .before) (r .behind) e, ap (λ (ms : List Leg). times ms e) (r .whole)) in
+      (r .before, r .to, λ e v. same e (used-there c (r .before) a e (r .to) v) .0 (used e v))
