@@ -1,4 +1,4 @@
--- The leg's law: which legs may be used, their ends and their lengths. No other file opens `may-go` or `leg-long`.
+-- The leg's law: which legs may be used, their ends and their lengths. Lemmas cite this; only examples that compute open `may-go` and `leg-long` elsewhere.
 use mathlib.Core.Path.{_≡_, refl}
 use mathlib.Core.Logic.{_⊎_, inl, inr}
 use mathlib.Core.Bool.{Bool, true, false, cond}

@@ -115,10 +115,11 @@ never-thrice ss c i ls pos short =
     ]
 
 pub from-anywhere : From-anywhere
-from-anywhere ss c d ls ms short other e f =
+from-anywhere ss c d ls short e f =
     let r = rotated ss c ls (short .goes-all) d f in
-    let s = rotated ss d ms (other .goes-all) c e in
-    omega (arith, r .2, s .2, short .least (s .0) (s .1), other .least (r .0) (r .1))
+    let least : (ks : List Leg) → is-round ss d ks ≡ true → how-long ss (r .0) ≤ how-long ss ks =
+    λ ks h. let s = rotated ss d ks h c e in omega (arith, r .2, s .2, short .least (s .0) (s .1)) in
+    (r .0, record { goes-all = r .1; least = least }, r .2)
 
 kept : (f : Street → ℕ) (b : Bool) (s : Street) (ss : List Street) → total f (cond b (s ∷ ss) ss) ≡ cond b 1 0 * f s + total f ss
 unfolding total

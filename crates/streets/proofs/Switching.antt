@@ -3,7 +3,7 @@ use mathlib.Core.Path.{_≡_, refl, sym, ap}
 use mathlib.Core.Logic.{_⊎_, inl, inr}
 use mathlib.Core.Bool.{true, cond}
 use mathlib.Core.List.{List, [], _∷_}
-use Prim.Native.Nat.{ℕ, _+_, _-_, _%_, _≤_, _<_}
+use Prim.Native.Nat.{ℕ, _+_, _-_, _%_, _<_}
 use native.Mathlib.Omega.{arith}
 use lib.Dec.{eqb}
 use lib.ListN.{length}
@@ -11,18 +11,15 @@ use Rattle.std.specs.shelf.Lists.{All}
 use Rattle.std.proofs.shelf.Tests.{cases-eq, cases-lt}
 use Rattle.std.proofs.shelf.Ways.{tells}
 use Rattle.streets.specs.Streets.{Street, street, Leg, may-go, leg-long, starts, stops, goes, how-long, mark, ends, total, ends-at, all-long}
-use Rattle.streets.specs.Counts.{weigh, Switched}
+use Rattle.streets.specs.Counts.{weigh, Once-or-twice, Switched}
 use Rattle.streets.specs.Pairs.{Way}
 use Rattle.streets.proofs.Sums.{one-more, weigh-split, weigh-one}
 use Rattle.streets.proofs.Legs.{there, leg-ends, as-long}
 use Rattle.streets.proofs.Walks.{step, stands}
 
 module _ (ss : List Street) where
-  abbrev Once-or-twice : (ℕ → ℕ) → Type 0
-  Once-or-twice t = (i : ℕ) → i < length ss → (1 ≤ t i) × (t i ≤ 2)
-
   -- nothing switched
-  pub unswitched : (t : ℕ → ℕ) → Once-or-twice t → (ends : ℕ → ℕ) → ((k : ℕ) → ends k % 2 ≡ 0) → Switched ss t ends 0 t
+  pub unswitched : (t : ℕ → ℕ) → Once-or-twice ss t → (ends : ℕ → ℕ) → ((k : ℕ) → ends k % 2 ≡ 0) → Switched ss t ends 0 t
   unswitched t once ends even = record { still = once; parity = λ k. omega (arith, even k); cost = omega arith }
 
   -- one after the other
@@ -36,7 +33,7 @@ module _ (ss : List Street) where
   -- street e switched: from once to twice, or back
   module _
       (t u : ℕ → ℕ) (e : ℕ) (there : e < length ss)
-      (once : Once-or-twice t)
+      (once : Once-or-twice ss t)
       (here : u e + t e ≡ 3)
       (else-same : (i : ℕ) → (e ≡ i → ⊥) → u i ≡ t i)
     where
@@ -64,7 +61,7 @@ module _ (ss : List Street) where
   switch t e i = cond (eqb e i) (3 - t i) (t i)
 
   switched-leg : (t : ℕ → ℕ) (l : Leg) →
-      Once-or-twice t →
+      Once-or-twice ss t →
       may-go ss l ≡ true →
       Switched ss t (λ k. mark (starts ss l) k + mark (stops ss l) k) (leg-long ss l) (switch t (l .along))
   unfolding switch
@@ -76,7 +73,7 @@ module _ (ss : List Street) where
 
   -- along a walk
   pub switched-walk : (t : ℕ → ℕ) (a : ℕ) (ls : List Leg) (b : ℕ) →
-      Once-or-twice t →
+      Once-or-twice ss t →
       goes ss a ls b ≡ true →
       (u : ℕ → ℕ) × Switched ss t (λ k. mark a k + mark b k) (how-long ss ls) u
   unfolding how-long
@@ -89,7 +86,7 @@ module _ (ss : List Street) where
 
   -- along ways between the corners of pairs
   pub switched-pairs : (t : ℕ → ℕ) (ps : List Street) →
-      Once-or-twice t →
+      Once-or-twice ss t →
       All (λ p. Way ss (p .one) (p .other) (p .long)) ps →
       (u : ℕ → ℕ) × Switched ss t (ends-at ps) (all-long ps) u
   unfolding total

@@ -40,8 +40,11 @@ pub record Visit (ss : List Street) (left : ℕ → ℕ) (v w : ℕ) (walk : Lis
   pub even : (k : ℕ) → degree ss rest k % 2 ≡ 0
   pub bare : (k : ℕ) → min (mark v k + degree ss (times walk) k) (degree ss rest k) ≡ 0
 
--- from t, which uses each street once or twice, to u, which does too: degrees by `ends` more, up to an even number, and a length by at most n more
+abbrev pub Once-or-twice : List Street → (ℕ → ℕ) → Type 0
+Once-or-twice ss t = (i : ℕ) → i < length ss → (1 ≤ t i) × (t i ≤ 2)
+
+-- u is t with some streets switched between once and twice: that adds `ends` to the degrees, up to an even number, and at most n to the length
 pub record Switched (ss : List Street) (t : ℕ → ℕ) (ends : ℕ → ℕ) (n : ℕ) (u : ℕ → ℕ) : Type 0 where
-  pub still : (i : ℕ) → i < length ss → (1 ≤ u i) × (u i ≤ 2)
+  pub still : Once-or-twice ss u
   pub parity : (k : ℕ) → degree ss u k % 2 ≡ (degree ss t k + ends k) % 2
   pub cost : stretch ss u ≤ stretch ss t + n

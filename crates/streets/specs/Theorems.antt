@@ -47,15 +47,14 @@ positive (s ∷ ss) = ltb 0 (s .long) && positive ss
 abbrev pub Never-thrice : Type 0
 Never-thrice = (ss : List Street) (c i : ℕ) (ls : List Leg) → positive ss ≡ true → Shortest ss c ls → times ls i ≤ 2
 
--- the length of a shortest round does not depend on where it starts
+-- from every corner that has a street there is a shortest round of the same length
 abbrev pub From-anywhere : Type 0
 From-anywhere =
-    (ss : List Street) (c d : ℕ) (ls ms : List Leg) →
+    (ss : List Street) (c d : ℕ) (ls : List Leg) →
     Shortest ss c ls →
-    Shortest ss d ms →
     0 < ends-at ss c →
     0 < ends-at ss d →
-    how-long ss ls ≡ how-long ss ms
+    (ms : List Leg) × Shortest ss d ms × (how-long ss ms ≡ how-long ss ls)
 
 -- of ss, numbered from i on, the streets with exactly two legs
 unfoldable pub twice-gone : List Street → List Leg → ℕ → List Street
