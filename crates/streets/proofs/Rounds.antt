@@ -1,4 +1,4 @@
--- Rounds from counts: Euler's theorem, and what a shortest round uses.
+-- Rounds from counts, and what a shortest round uses.
 use mathlib.Core.Path.{_≡_, refl, ap, _∙_}
 use mathlib.Core.Logic.{inl, inr}
 use mathlib.Core.Bool.{Bool, true, false, cond}
