@@ -10,17 +10,17 @@ use Rattle.std.proofs.shelf.Tests.{ltb-true, lt-ltb, cases-eq}
 use Rattle.std.proofs.shelf.Ways.{tells}
 use Rattle.streets.specs.Streets.{Street, street, Leg, starts, stops, may-go, leg-long, mark, ends}
 
-pub there : (ss : List Street) (l : Leg) → may-go ss l ≡ true → l .along < length ss
+pub leg-there : (ss : List Street) (l : Leg) → may-go ss l ≡ true → l .along < length ss
 unfolding may-go
-there ss l h = ltb-true (l .along) (length ss) h
+leg-there ss l h = ltb-true (l .along) (length ss) h
 
-pub may : (ss : List Street) (l : Leg) → l .along < length ss → may-go ss l ≡ true
+pub leg-may : (ss : List Street) (l : Leg) → l .along < length ss → may-go ss l ≡ true
 unfolding may-go
-may ss l h = lt-ltb (l .along) (length ss) h
+leg-may ss l h = lt-ltb (l .along) (length ss) h
 
-pub as-long : (ss : List Street) (l : Leg) → leg-long ss l ≡ street ss (l .along) .long
+pub leg-as-long : (ss : List Street) (l : Leg) → leg-long ss l ≡ street ss (l .along) .long
 unfolding leg-long
-as-long ss l = refl
+leg-as-long ss l = refl
 
 either-way : (b : Bool) (x y k : ℕ) → mark x k + mark y k ≡ mark (cond b y x) k + mark (cond b x y) k
 either-way true x y k = omega arith

@@ -8,20 +8,20 @@ use native.Mathlib.Omega.{arith}
 use Rattle.std.proofs.shelf.Tests.{cases-lt}
 use Rattle.streets.specs.Streets.{Street, Leg, how-long}
 use Rattle.streets.specs.Pairs.{Way, Linking, Spans, Metric, No-shorter, Shortest-ways}
-use Rattle.streets.proofs.Legs.{may, as-long}
-use Rattle.streets.proofs.Walks.{stay, one-leg, joined, long-append}
+use Rattle.streets.proofs.Legs.{leg-may, leg-as-long}
+use Rattle.streets.proofs.Walks.{stay, one-leg, goes-append, long-append}
 use Rattle.streets.proofs.Reversal.{Both-ways, reversed}
 
 pub way-links : (ss : List Street) → Both-ways ss → Linking (Way ss)
 way-links ss both =
     record {
       turned = λ a b n w. let r = reversed ss both a (w .0) b (w .1) in (r .0, r .1, r .2 ∙ w .2);
-      joined = λ a b c m n v w. (v .0 ++ w .0, joined ss a (v .0) b (w .0) c (v .1) (w .1), omega (arith, long-append ss (v .0) (w .0), v .2, w .2));
+      joined = λ a b c m n v w. (v .0 ++ w .0, goes-append ss a (v .0) b (w .0) c (v .1) (w .1), omega (arith, long-append ss (v .0) (w .0), v .2, w .2));
     }
 
 pub way-spans : (ss : List Street) → Spans (Way ss) ss
 unfolding how-long
-way-spans ss i l = let e : Leg = record { along = i; back = false } in (e ∷ [], one-leg ss e (may ss e l), omega (arith, as-long ss e))
+way-spans ss i l = let e : Leg = record { along = i; back = false } in (e ∷ [], one-leg ss e (leg-may ss e l), omega (arith, leg-as-long ss e))
 
 pub metric-links : (d : ℕ → ℕ → ℕ) → Metric d → Linking (No-shorter d)
 metric-links d m = record { turned = λ a b n w. omega (arith, m .turned a b); joined = λ a b c x y v w. omega (arith, m .joined a b c) }

@@ -6,8 +6,8 @@ use Prim.Native.Nat.{ℕ, _+_}
 use native.Mathlib.Omega.{arith}
 use Rattle.streets.specs.Streets.{Street, street, Leg, starts, stops, may-go, leg-long, goes, how-long}
 use Rattle.streets.specs.Pairs.{Way}
-use Rattle.streets.proofs.Legs.{there, may, as-long}
-use Rattle.streets.proofs.Walks.{step, stands, stay, one-leg, joined, long-append}
+use Rattle.streets.proofs.Legs.{leg-there, leg-may, leg-as-long}
+use Rattle.streets.proofs.Walks.{step, stands, stay, one-leg, goes-append, long-append}
 
 abbrev pub turn : Leg → Leg
 turn l = record { along = l .along; back = not (l .back) }
@@ -23,7 +23,7 @@ cond-not false x y = refl
 module _ (ss : List Street) where
   -- so are all streets there are
   pub both-ways : Both-ways ss
-  both-ways = record { may-turn = λ l h. may ss (turn l) (there ss l h); long-turn = λ l. as-long ss (turn l) ∙ sym (as-long ss l) }
+  both-ways = record { may-turn = λ l h. leg-may ss (turn l) (leg-there ss l h); long-turn = λ l. leg-as-long ss (turn l) ∙ sym (leg-as-long ss l) }
 
   starts-turn : (l : Leg) → starts ss (turn l) ≡ stops ss l
   starts-turn l = cond-not (l .back) (street ss (l .along) .other) (street ss (l .along) .one)
@@ -43,6 +43,6 @@ module _ (ss : List Street) where
       let r = reversed both (stops ss l) ls b (s .on) in
       let last = rw (s .here) at (turn-goes l (both .may-turn l (s .may))) in (
         r .0 ++ turn l ∷ [],
-        joined ss b (r .0) (stops ss l) (turn l ∷ []) a (r .1) last,
+        goes-append ss b (r .0) (stops ss l) (turn l ∷ []) a (r .1) last,
         omega (arith, long-append ss (r .0) (turn l ∷ []), r .2, both .long-turn l),
       )

@@ -9,12 +9,12 @@ use lib.Dec.{eqb}
 use lib.ListN.{length}
 use Rattle.std.proofs.shelf.Tests.{cases-lt}
 use Rattle.std.proofs.shelf.Ways.{tells}
-use Rattle.streets.specs.Streets.{Street, street, Leg, ahead, how-long, times, is-round, mark, ends, total, ends-at}
+use Rattle.streets.specs.Streets.{Street, street, Leg, forward, how-long, times, is-round, mark, ends, total, ends-at}
 use Rattle.streets.specs.Counts.{sum-below, weigh, degree, stretch, Connected}
 use Rattle.streets.specs.Theorems.{Joined, A-round, Never-thrice, From-anywhere, twice-gone, Joins-odd}
 use Rattle.streets.proofs.Sums.{weigh-split, weigh-same, weigh-some, weigh-front, weigh-ones, weigh-twos, weigh-parity, some-street}
 use Rattle.streets.proofs.Legs.{starts-end}
-use Rattle.streets.proofs.Walks.{joined, times-append, long-append, by-counts, used-there, cut, walk-connected}
+use Rattle.streets.proofs.Walks.{goes-append, times-append, long-append, by-counts, used-there, cut, walk-connected}
 use Rattle.streets.proofs.Parity.{parity}
 use Rattle.streets.proofs.Visits.{remade}
 use Rattle.streets.proofs.Tests.{from-round, to-round, positive-at}
@@ -54,7 +54,7 @@ module _ (ss : List Street) where
     pub round-joins : Joined ss c
     round-joins i l =
         let r = from-round ss c ls h in
-        let p = cut ss c ls c i (street ss i .one) (r .walks) (r .covers i l) (starts-end ss (ahead i)) in
+        let p = cut ss c ls c i (street ss i .one) (r .walks) (r .covers i l) (starts-end ss (forward i)) in
         (p .before, p .to)
 
     pub round-even : (k : ℕ) → degree ss (times ls) k % 2 ≡ 0
@@ -90,7 +90,7 @@ module _ (ss : List Street) where
         let covers : (i : ℕ) → i < length ss → 0 < times (b ++ a) i =
         λ i l. omega (arith, r .covers i l, times-append b a i, times-append a b i, ap (λ (ms : List Leg). times ms i) (p .whole)) in (
           b ++ a,
-          to-round ss d (b ++ a) (record { walks = joined ss d b c a d (p .from) (p .to); covers = covers }),
+          to-round ss d (b ++ a) (record { walks = goes-append ss d b c a d (p .from) (p .to); covers = covers }),
           omega (arith, long-append ss b a, long-append ss a b, ap (λ (ms : List Leg). how-long ss ms) (p .whole)),
         )
 

@@ -14,7 +14,7 @@ use Rattle.streets.specs.Streets.{Street, street, Leg, may-go, leg-long, start
 use Rattle.streets.specs.Counts.{weigh, Once-or-twice, Switched}
 use Rattle.streets.specs.Pairs.{Way}
 use Rattle.streets.proofs.Sums.{one-more, weigh-split, weigh-one}
-use Rattle.streets.proofs.Legs.{there, leg-ends, as-long}
+use Rattle.streets.proofs.Legs.{leg-there, leg-ends, leg-as-long}
 use Rattle.streets.proofs.Walks.{step, stands}
 
 module _ (ss : List Street) where
@@ -67,9 +67,9 @@ module _ (ss : List Street) where
   unfolding switch
   switched-leg t l once may =
       let e = l .along in
-      let o = once e (there ss l may) in
-      let s = switched-street t (switch t e) e (there ss l may) once (grind (arith, tells)) (λ i n. grind (arith, tells)) in
-      record { still = s .still; parity = λ k. omega (arith, s .parity k, leg-ends ss l k); cost = omega (arith, s .cost, as-long ss l) }
+      let o = once e (leg-there ss l may) in
+      let s = switched-street t (switch t e) e (leg-there ss l may) once (grind (arith, tells)) (λ i n. grind (arith, tells)) in
+      record { still = s .still; parity = λ k. omega (arith, s .parity k, leg-ends ss l k); cost = omega (arith, s .cost, leg-as-long ss l) }
 
   -- along a walk
   pub switched-walk : (t : ℕ → ℕ) (a : ℕ) (ls : List Leg) (b : ℕ) →

@@ -10,11 +10,11 @@ use lib.ListN.{length}
 use Rattle.std.specs.Orderings.{Decides}
 use Rattle.std.proofs.shelf.Tests.{and-parts, and-from, and-cases, or-cases, or-parts, not-true, not-false, leb-true, leb-false, lt-ltb, eq-eqb, eqb-true, both-ways, cases-bool, cases-eq, cases-lt}
 use Rattle.std.proofs.shelf.Ways.{tells, decides-ltb, decides-below-and}
-use Rattle.streets.specs.Streets.{Street, Leg, ahead, back, starts, stops, may-go, leg-long, goes, how-long, mark, times, all-gone, is-round, at-most-twice}
+use Rattle.streets.specs.Streets.{Street, Leg, forward, backward, starts, stops, may-go, leg-long, goes, how-long, mark, times, all-gone, is-round, at-most-twice}
 use Rattle.streets.specs.Calls.{Shortest}
 use Rattle.streets.specs.Trials.{every-leg, all-used, complete, can-go, next, none-below, tried}
 use Rattle.streets.specs.Theorems.{Joined, Tried, triangle, Triangle-shortest, path, Path-shortest}
-use Rattle.streets.proofs.Legs.{there}
+use Rattle.streets.proofs.Legs.{leg-there}
 use Rattle.streets.proofs.Walks.{step, go-on, stands, stay, used-there}
 use Rattle.streets.proofs.Counts.{few-legs}
 use Rattle.streets.proofs.Tests.{from-round, to-round}
@@ -24,15 +24,15 @@ all-used-decides : (left : ℕ → ℕ) (n : ℕ) → Decides (all-used left n) 
 unfolding all-used
 all-used-decides left n = decides-below-and (λ i. ltb (left i) 2) (λ i. left i < 2) (all-used left) (λ i. decides-ltb (left i) 2) refl (λ _. refl) n
 
-both-legs : (p : Leg → Bool) (i : ℕ) (b : Bool) → (p (ahead i) && p (back i)) ≡ true → p (record { along = i; back = b }) ≡ true
-both-legs p i true h = and-parts (p (ahead i)) (p (back i)) h .1
-both-legs p i false h = and-parts (p (ahead i)) (p (back i)) h .0
+both-legs : (p : Leg → Bool) (i : ℕ) (b : Bool) → (p (forward i) && p (backward i)) ≡ true → p (record { along = i; back = b }) ≡ true
+both-legs p i true h = and-parts (p (forward i)) (p (backward i)) h .1
+both-legs p i false h = and-parts (p (forward i)) (p (backward i)) h .0
 
 leg-passes : (n : ℕ) (p : Leg → Bool) → every-leg n p ≡ true → (l : Leg) → l .along < n → p l ≡ true
 unfolding every-leg
 leg-passes zero p h l a = absurd (omega arith)
 leg-passes (suc n) p h l a =
-    let q = and-parts (p (ahead n) && p (back n)) (every-leg n p) h in
+    let q = and-parts (p (forward n) && p (backward n)) (every-leg n p) h in
     elim (cases-eq (l .along) n) [
       | inl e ↦ subst (λ (i : ℕ). p (record { along = i; back = l .back }) ≡ true) (sym e) (both-legs p n (l .back) (q .0))
       | inr d ↦ leg-passes n p (q .1) l (omega arith)
@@ -42,8 +42,8 @@ leg-fails : (n : ℕ) (p : Leg → Bool) → every-leg n p ≡ false → (l : Le
 unfolding every-leg
 leg-fails zero p h = absurd (both-ways true h refl)
 leg-fails (suc n) p h =
-    elim (and-cases (p (ahead n) && p (back n)) (every-leg n p) h) [
-      | inl q ↦ elim (and-cases (p (ahead n)) (p (back n)) q) [ inl a ↦ (ahead n, a) | inr b ↦ (back n, b) ]
+    elim (and-cases (p (forward n) && p (backward n)) (every-leg n p) h) [
+      | inl q ↦ elim (and-cases (p (forward n)) (p (backward n)) q) [ inl a ↦ (forward n, a) | inr b ↦ (backward n, b) ]
       | inr q ↦ leg-fails n p q
     ]
 
@@ -147,7 +147,7 @@ module _ (ss : List Street) (c : ℕ) where
             let less : ℕ → ℕ = λ i. left i - mark (l .along) i in
             let rest = b - leg-long ss l in
             let on = none-below ss c m less (stops ss l) rest in
-            let q = leg-passes (length ss) (next ss (none-below ss c m) left v b) (p .1) l (there ss l (step ss v l ls c (h .walks) .may)) in
+            let q = leg-passes (length ss) (next ss (none-below ss c m) left v b) (p .1) l (leg-there ss l (step ss v l ls c (h .walks) .may)) in
             let r = none-found m less (stops ss l) rest ls (implied (can-go ss left v l) on q (first-leg left v l ls h)) (after-leg left v l ls h) (omega arith) in
             omega arith
       ]
@@ -233,8 +233,8 @@ tried-shortest ss c ls = (
 
 pub triangle-shortest : Triangle-shortest
 unfolding tried none-below every-leg all-used goes may-go leg-long how-long times all-gone
-triangle-shortest = (passed triangle 0 (ahead 0 ∷ ahead 1 ∷ ahead 2 ∷ []) refl, refl)
+triangle-shortest = (passed triangle 0 (forward 0 ∷ forward 1 ∷ forward 2 ∷ []) refl, refl)
 
 pub path-shortest : Path-shortest
 unfolding tried none-below every-leg all-used goes may-go leg-long how-long times all-gone
-path-shortest = (passed path 0 (ahead 0 ∷ ahead 1 ∷ back 1 ∷ back 0 ∷ []) refl, refl)
+path-shortest = (passed path 0 (forward 0 ∷ forward 1 ∷ backward 1 ∷ backward 0 ∷ []) refl, refl)

@@ -8,11 +8,11 @@ use native.Mathlib.Omega.{arith}
 use lib.ListN.{length}
 use Rattle.std.proofs.shelf.Tests.{cases-eq, cases-lt}
 use Rattle.std.proofs.shelf.Ways.{tells}
-use Rattle.streets.specs.Streets.{Street, street, Leg, ahead, back, may-go, goes, starts, stops, mark, times, ends}
+use Rattle.streets.specs.Streets.{Street, street, Leg, forward, backward, may-go, goes, starts, stops, mark, times, ends}
 use Rattle.streets.specs.Counts.{weigh, degree, Even-but, Connected, Visit}
 use Rattle.streets.proofs.Sums.{ones, taken, weigh-split, weigh-one, weigh-some, weigh-nothing, some-street}
-use Rattle.streets.proofs.Legs.{there, may, leg-ends, starts-end, stops-end, leg-at}
-use Rattle.streets.proofs.Walks.{step, go-on, stands, stay, joined, times-append, weigh-none, weigh-leg}
+use Rattle.streets.proofs.Legs.{leg-there, leg-may, leg-ends, starts-end, stops-end, leg-at}
+use Rattle.streets.proofs.Walks.{step, go-on, stands, stay, goes-append, times-append, weigh-none, weigh-leg}
 
 pub record Visited (ss : List Street) (left : ℕ → ℕ) (v w : ℕ) : Type 0 where
   pub walk : List Leg
@@ -49,7 +49,7 @@ module _ (ss : List Street) where
       unfolding times
       join {on} {home} {rest} {last} first second =
           record {
-            walks = joined ss v home v (l ∷ on) w (second .walks) (go-on ss v l on w (record { may = may; here = here; on = first .walks }));
+            walks = goes-append ss v home v (l ∷ on) w (second .walks) (go-on ss v l on w (record { may = may; here = here; on = first .walks }));
             split = λ i. omega (arith, split i, first .split i, second .split i, times-append home (l ∷ on) i);
             even = second .even;
             bare =
@@ -72,16 +72,16 @@ module _ (ss : List Street) where
       leg-even even k =
           let f : Street → ℕ = λ s. ends s k in
           let a = weigh-split ss f left (mark (l .along)) less (λ i _. split i) in
-          let b = weigh-one ss f (l .along) (there ss l may) in
+          let b = weigh-one ss f (l .along) (leg-there ss l may) in
           omega (arith, even k, leg-ends ss l k, ap (λ (x : ℕ). mark x k) here)
 
   -- where something is left at a corner, a leg of it starts there
   some-leg : (left : ℕ → ℕ) (v : ℕ) → 0 < degree ss left v → (l : Leg) × (may-go ss l ≡ true) × (0 < left (l .along)) × (starts ss l ≡ v)
   some-leg left v h =
       let r = some-street ss (λ s. ends s v) left h in
-      elim (leg-at ss (ahead (r .0)) v (r .3)) [
-        | inl b ↦ (ahead (r .0), may ss (ahead (r .0)) (r .1), r .2, b)
-        | inr b ↦ (back (r .0), may ss (back (r .0)) (r .1), r .2, b)
+      elim (leg-at ss (forward (r .0)) v (r .3)) [
+        | inl b ↦ (forward (r .0), leg-may ss (forward (r .0)) (r .1), r .2, b)
+        | inr b ↦ (backward (r .0), leg-may ss (backward (r .0)) (r .1), r .2, b)
       ]
 
   visit-leg : (bound : ℕ) (left : ℕ → ℕ) (v w : ℕ) →
@@ -93,7 +93,7 @@ module _ (ss : List Street) where
       let less : ℕ → ℕ = λ i. left i - mark (l .along) i in
       let split = taken left (l .along) some in
       let a = weigh-split ss ones left (mark (l .along)) less (λ i _. split i) in
-      let b = weigh-one ss ones (l .along) (there ss l may) in
+      let b = weigh-one ss ones (l .along) (leg-there ss l may) in
       let on = visit less (stops ss l) w (omega arith) (leg-even left less v w l may here split even) in
       let d = weigh-split ss ones less (times (on .walk)) (on .rest) (λ i _. on .seen .split i) in
       let home = visit (on .rest) v v (omega arith) (λ k. omega (arith, on .seen .even k)) in
@@ -120,9 +120,9 @@ module _ (ss : List Street) where
     touched-on l may some here =
         let e = l .along in
         elim (cases-lt 0 (times walk e)) [
-          | inl m ↦ omega (arith, weigh-some ss (λ s. ends s (stops ss l)) (times walk) e (there ss l may) m (stops-end ss l))
+          | inl m ↦ omega (arith, weigh-some ss (λ s. ends s (stops ss l)) (times walk) e (leg-there ss l may) m (stops-end ss l))
           | inr m ↦
-              let a = weigh-some ss (λ s. ends s (starts ss l)) rest e (there ss l may) (omega (arith, some, seen .split e)) (starts-end ss l) in
+              let a = weigh-some ss (λ s. ends s (starts ss l)) rest e (leg-there ss l may) (omega (arith, some, seen .split e)) (starts-end ss l) in
               absurd (omega (arith, here, seen .bare (starts ss l)))
         ]
 
@@ -144,7 +144,7 @@ module _ (ss : List Street) where
               let a = street ss i .one in
               let r = all i l (omega (arith, seen .split i)) in
               let t = stays v (r .0) a (r .1) (r .2) (grind (arith, tells)) in
-              absurd (omega (arith, seen .bare a, weigh-some ss (λ s. ends s a) rest i l m (starts-end ss (ahead i))))
+              absurd (omega (arith, seen .bare a, weigh-some ss (λ s. ends s a) rest i l m (starts-end ss (forward i))))
           | inr m ↦ omega arith
         ]
 

@@ -9,10 +9,10 @@ use lib.Dec.{eqb}
 use lib.ListN.{length}
 use Rattle.std.proofs.shelf.Tests.{and-parts, and-from, eqb-true, eq-eqb, cases-lt}
 use Rattle.std.proofs.shelf.Ways.{tells}
-use Rattle.streets.specs.Streets.{Street, street, Leg, ahead, may-go, goes, starts, stops, how-long, mark, times, ends}
+use Rattle.streets.specs.Streets.{Street, street, Leg, forward, may-go, goes, starts, stops, how-long, mark, times, ends}
 use Rattle.streets.specs.Counts.{weigh, stretch, Connected}
 use Rattle.streets.proofs.Sums.{weigh-split, weigh-one}
-use Rattle.streets.proofs.Legs.{there, as-long, starts-end, leg-at}
+use Rattle.streets.proofs.Legs.{leg-there, leg-as-long, starts-end, leg-at}
 
 -- a walk by its first leg
 pub record Step (ss : List Street) (c : ℕ) (l : Leg) (ls : List Leg) (d : ℕ) : Type 0 where
@@ -55,14 +55,14 @@ module _ (ss : List Street) where
   unfolding goes
   stay c = eq-eqb c c refl
 
-  pub joined : (c : ℕ) (ls : List Leg) (d : ℕ) (ms : List Leg) (e : ℕ) →
+  pub goes-append : (c : ℕ) (ls : List Leg) (d : ℕ) (ms : List Leg) (e : ℕ) →
       goes ss c ls d ≡ true →
       goes ss d ms e ≡ true →
       goes ss c (ls ++ ms) e ≡ true
-  joined c [] d ms e h k = rw (stands c d h) k
-  joined c (l ∷ ls) d ms e h k =
+  goes-append c [] d ms e h k = rw (stands c d h) k
+  goes-append c (l ∷ ls) d ms e h k =
       let s = step c l ls d h in
-      go-on c l (ls ++ ms) e (record { may = s .may; here = s .here; on = joined (stops ss l) ls d ms e (s .on) k })
+      go-on c l (ls ++ ms) e (record { may = s .may; here = s .here; on = goes-append (stops ss l) ls d ms e (s .on) k })
 
   pub long-append : (ls ms : List Leg) → how-long ss (ls ++ ms) ≡ how-long ss ls + how-long ss ms
   unfolding how-long
@@ -83,7 +83,7 @@ module _ (ss : List Street) where
   unfolding times
   weigh-leg f l ls h =
       let split = weigh-split ss f (times (l ∷ ls)) (mark (l .along)) (times ls) (λ i _. refl) in
-      omega (arith, weigh-one ss f (l .along) (there ss l h))
+      omega (arith, weigh-one ss f (l .along) (leg-there ss l h))
 
   -- a walk is as long as its counts say
   pub by-counts : (c : ℕ) (ls : List Leg) (d : ℕ) → goes ss c ls d ≡ true → how-long ss ls ≡ stretch ss (times ls)
@@ -92,7 +92,7 @@ module _ (ss : List Street) where
   by-counts c (l ∷ ls) d h =
       let s = step c l ls d h in
       let r = by-counts (stops ss l) ls d (s .on) in
-      omega (arith, weigh-leg (λ s. s .long) l ls (s .may), as-long ss l)
+      omega (arith, weigh-leg (λ s. s .long) l ls (s .may), leg-as-long ss l)
 
   -- it uses only streets that are there
   pub used-there : (c : ℕ) (ls : List Leg) (d i : ℕ) → goes ss c ls d ≡ true → 0 < times ls i → i < length ss
@@ -100,7 +100,7 @@ module _ (ss : List Street) where
   used-there c [] d i h u = absurd (omega arith)
   used-there c (l ∷ ls) d i h u =
       let s = step c l ls d h in
-      let t = there ss l (s .may) in
+      let t = leg-there ss l (s .may) in
       elim (cases-lt 0 (times ls i)) [ inl m ↦ used-there (stops ss l) ls d i (s .on) m | inr m ↦ grind (arith, tells) ]
 
   cut-later : (c : ℕ) (l : Leg) (ls : List Leg) (d k : ℕ) → Step ss c l ls d → Cut ss (stops ss l) ls d k → Cut ss c (l ∷ ls) d k
@@ -139,7 +139,7 @@ module _ (ss : List Street) where
       Connected ss t c
   walk-connected c ls d t h same i l u =
       let a = street ss i .one in
-      let r = cut c ls d i a h (same i l .1 u) (starts-end ss (ahead i)) in
+      let r = cut c ls d i a h (same i l .1 u) (starts-end ss (forward i)) in
       let used : (e : ℕ) → 0 < times (r .before) e → 0 < times ls e =
       λ e v. omega (arith, times-append (r .before) (r .behind) e, ap (λ (ms : List Leg). times ms e) (r .whole)) in
       (r .before, r .to, λ e v. same e (used-there c (r .before) a e (r .to) v) .0 (used e v))

@@ -23,11 +23,11 @@ pub record Leg : Type 0 where
   pub along : ℕ
   pub back : Bool
 
-abbrev pub ahead : ℕ → Leg
-ahead i = record { along = i; back = false }
+abbrev pub forward : ℕ → Leg
+forward i = record { along = i; back = false }
 
-abbrev pub back : ℕ → Leg
-back i = record { along = i; back = true }
+abbrev pub backward : ℕ → Leg
+backward i = record { along = i; back = true }
 
 abbrev pub starts : List Street → Leg → ℕ
 starts ss l = cond (l .back) (street ss (l .along) .other) (street ss (l .along) .one)

@@ -6,7 +6,7 @@ use mathlib.Core.List.{List, [], _∷_}
 use Prim.Native.Nat.{ℕ, zero, suc, _+_, _*_, _%_, _≤_, _<_}
 use lib.Dec.{ltb, eqb}
 use lib.ListN.{length}
-use Rattle.streets.specs.Streets.{Street, joining, street, Leg, ahead, back, goes, how-long, times, is-round, ends-at, odd-corners, all-long, at-most-twice}
+use Rattle.streets.specs.Streets.{Street, joining, street, Leg, forward, backward, goes, how-long, times, is-round, ends-at, odd-corners, all-long, at-most-twice}
 use Rattle.streets.specs.Calls.{Shortest}
 use Rattle.streets.specs.Pairs.{Way, Spans, Pairing, odd-once, Metric, No-shorter}
 use Rattle.streets.specs.Trials.{tried}
@@ -118,10 +118,10 @@ abbrev pub triangle : List Street
 triangle = joining 0 1 3 ∷ joining 1 2 4 ∷ joining 2 0 5 ∷ []
 
 abbrev pub Triangle-shortest : Type 0
-Triangle-shortest = let ls = ahead 0 ∷ ahead 1 ∷ ahead 2 ∷ [] in Shortest triangle 0 ls × (how-long triangle ls ≡ 12)
+Triangle-shortest = let ls = forward 0 ∷ forward 1 ∷ forward 2 ∷ [] in Shortest triangle 0 ls × (how-long triangle ls ≡ 12)
 
 abbrev pub path : List Street
 path = joining 0 1 3 ∷ joining 1 2 4 ∷ []
 
 abbrev pub Path-shortest : Type 0
-Path-shortest = let ls = ahead 0 ∷ ahead 1 ∷ back 1 ∷ back 0 ∷ [] in Shortest path 0 ls × (how-long path ls ≡ 14)
+Path-shortest = let ls = forward 0 ∷ forward 1 ∷ backward 1 ∷ backward 0 ∷ [] in Shortest path 0 ls × (how-long path ls ≡ 14)

@@ -4,12 +4,12 @@ use mathlib.Core.List.{List}
 use Prim.Native.Nat.{ℕ, zero, suc, _-_, _*_}
 use lib.Dec.{ltb, leb, eqb}
 use lib.ListN.{length}
-use Rattle.streets.specs.Streets.{Street, Leg, ahead, back, starts, stops, may-go, leg-long, how-long, mark, is-round}
+use Rattle.streets.specs.Streets.{Street, Leg, forward, backward, starts, stops, may-go, leg-long, how-long, mark, is-round}
 
 -- p holds of both legs along each street below n
 unfoldable pub every-leg : ℕ → (Leg → Bool) → Bool
 every-leg zero p = true
-every-leg (suc n) p = (p (ahead n) && p (back n)) && every-leg n p
+every-leg (suc n) p = (p (forward n) && p (backward n)) && every-leg n p
 
 -- of two uses of each street below n at most one is left
 unfoldable pub all-used : (ℕ → ℕ) → ℕ → Bool
