@@ -10,7 +10,7 @@ use Rattle.streets.specs.Streets.{Street, street, Leg, goes, how-long, times, 
 use Rattle.streets.specs.Counts.{weigh, degree, stretch}
 use Rattle.streets.specs.Pairs.{Links, Linking, Spans, Pairing, odd-once}
 use Rattle.std.proofs.shelf.Tests.{cases-lt}
-use Rattle.streets.proofs.Sums.{ones, weigh-split, weigh-one, weigh-ones, weigh-nothing, some-street, taken}
+use Rattle.streets.proofs.Sums.{ones, weigh-split, weigh-more, weigh-ones, weigh-nothing, some-street, taken}
 use Rattle.streets.proofs.Walks.{by-counts}
 use Rattle.streets.proofs.Parity.{parity}
 use Rattle.streets.proofs.Tests.{from-round}
@@ -28,7 +28,7 @@ module _ (W : Links) (law : Linking W) (ss : List Street) (spans : Spans W ss) w
 
     split : (f : Street → ℕ) → weigh ss f t ≡ f (street ss i) + weigh ss f less
     unfolding less
-    split f = omega (arith, weigh-split ss f t (mark i) less (λ j _. taken t i some j), weigh-one ss f i l)
+    split f = weigh-more ss f less t i l (taken t i some)
 
     one-street : Paired W (degree ss less) (stretch ss less) → Paired W (degree ss t) (stretch ss t)
     one-street r =

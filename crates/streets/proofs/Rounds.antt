@@ -9,12 +9,12 @@ use lib.Dec.{eqb}
 use lib.ListN.{length}
 use Rattle.std.proofs.shelf.Tests.{cases-lt}
 use Rattle.std.proofs.shelf.Ways.{tells}
-use Rattle.streets.specs.Streets.{Street, street, Leg, forward, how-long, times, is-round, mark, ends, total, ends-at}
+use Rattle.streets.specs.Streets.{Street, street, Leg, forward, goes, how-long, times, is-round, mark, ends, total, ends-at}
 use Rattle.streets.specs.Counts.{sum-below, weigh, degree, stretch, Connected}
 use Rattle.streets.specs.Theorems.{Joined, A-round, Never-thrice, From-anywhere, twice-gone, Joins-odd}
 use Rattle.streets.proofs.Sums.{weigh-split, weigh-same, weigh-some, weigh-front, weigh-ones, weigh-twos, weigh-parity, some-street}
-use Rattle.streets.proofs.Legs.{starts-end}
-use Rattle.streets.proofs.Walks.{goes-append, times-append, long-append, by-counts, used-there, cut, walk-connected}
+use Rattle.streets.proofs.Legs.{leg-there, starts-end}
+use Rattle.streets.proofs.Walks.{step, goes-append, times-append, long-append, by-counts, used-there, cut}
 use Rattle.streets.proofs.Parity.{parity}
 use Rattle.streets.proofs.Visits.{remade}
 use Rattle.streets.proofs.Tests.{from-round, to-round, positive-at}
@@ -30,24 +30,37 @@ abbrev pub slim : ℕ → ℕ
 slim n = 2 - n % 2
 
 module _ (ss : List Street) where
-  -- the round that has given counts
-  pub round-of : (t : ℕ → ℕ) (c : ℕ) →
-      ((k : ℕ) → degree ss t k % 2 ≡ 0) →
-      ((i : ℕ) → i < length ss → 0 < t i) →
-      Connected ss t c →
-      Remade ss t c
-  round-of t c even all hang =
-      let r = remade ss t c c (λ k. omega (arith, even k)) hang in
-      record {
-        legs = r .0;
-        goes-all = to-round ss c (r .0) (record { walks = r .1; covers = λ i l. omega (arith, r .2 i l, all i l) });
-        counts = r .2;
-        long = by-counts ss c (r .0) c (r .1) ∙ weigh-same ss (λ s. s .long) (times (r .0)) t (r .2);
-      }
+  -- counts that use every street hang together
+  pub joined-connected : (t : ℕ → ℕ) (c : ℕ) → Joined ss c → ((i : ℕ) → i < length ss → 0 < t i) → Connected ss t c
+  joined-connected t c j all i l u = let r = j i l in (r .0, r .1, λ e v. all e (used-there ss c (r .0) (street ss i .one) e (r .1) v))
 
+  -- a closed walk that has such counts is a round, and as long as they say
+  pub counted-round : (t : ℕ → ℕ) (c : ℕ) (ls : List Leg) →
+      goes ss c ls c ≡ true →
+      ((i : ℕ) → i < length ss → times ls i ≡ t i) →
+      ((i : ℕ) → i < length ss → 0 < t i) →
+      (is-round ss c ls ≡ true) × (how-long ss ls ≡ stretch ss t)
+  counted-round t c ls walks same all = (
+    to-round ss c ls (record { walks = walks; covers = λ i l. omega (arith, same i l, all i l) }),
+    by-counts ss c ls c walks ∙ weigh-same ss (λ s. s .long) (times ls) t same,
+  )
+
+  -- and there is one
   pub joined-round : (t : ℕ → ℕ) (c : ℕ) → Joined ss c → ((k : ℕ) → degree ss t k % 2 ≡ 0) → ((i : ℕ) → i < length ss → 0 < t i) → Remade ss t c
   joined-round t c j even all =
-      round-of t c even all (λ i l u. let r = j i l in (r .0, r .1, λ e v. all e (used-there ss c (r .0) (street ss i .one) e (r .1) v)))
+      let r = remade ss t c c (λ k. omega (arith, even k)) (joined-connected t c j all) in
+      let p = counted-round t c (r .0) (r .1) (r .2) all in
+      record { legs = r .0; goes-all = p .0; counts = r .2; long = p .1 }
+
+  -- a walk with a leg starts at a corner that has a street
+  starts-at-street : (c : ℕ) (ls : List Leg) (d i : ℕ) → goes ss c ls d ≡ true → 0 < times ls i → 0 < ends-at ss c
+  unfolding times
+  starts-at-street c [] d i h some = absurd (omega arith)
+  starts-at-street c (l ∷ ls) d i h some =
+      let s = step ss c l ls d h in
+      let f : Street → ℕ = λ s. ends s c in
+      let one = weigh-some ss f (λ _. 1) (l .along) (leg-there ss l (s .may)) (omega arith) (rw (s .here) at (starts-end ss l)) in
+      omega (arith, weigh-ones ss f)
 
   module _ (c : ℕ) (ls : List Leg) (h : is-round ss c ls ≡ true) where
     -- a round reaches every street
@@ -63,12 +76,10 @@ module _ (ss : List Street) where
     -- out of any round, one that uses no street more than twice
     pub slimmed : Remade ss (λ i. slim (times ls i)) c
     slimmed =
-        let r = from-round ss c ls h in
         let t : ℕ → ℕ = λ i. slim (times ls i) in
-        round-of t c
+        joined-round t c round-joins
         (λ k. omega (arith, round-even k, weigh-parity ss (λ s. ends s k) t (times ls) (λ i l. omega arith)))
         (λ i l. omega arith)
-        (walk-connected ss c ls c t (r .walks) (λ i l. (λ _. omega arith, λ _. r .covers i l)))
 
     -- what it is shorter by
     pub slimmed-by : how-long ss ls ≡ how-long ss (slimmed .legs) + stretch ss (λ i. times ls i - slim (times ls i))
@@ -115,7 +126,10 @@ never-thrice ss c i ls pos short =
     ]
 
 pub from-anywhere : From-anywhere
-from-anywhere ss c d ls short e f =
+from-anywhere ss c d ls short f =
+    let s = some-street ss (λ s. ends s d) (λ _. 1) (omega (arith, weigh-ones ss (λ s. ends s d))) in
+    let q = from-round ss c ls (short .goes-all) in
+    let e = starts-at-street ss c ls c (s .0) (q .walks) (q .covers (s .0) (s .1)) in
     let r = rotated ss c ls (short .goes-all) d f in
     let least : (ks : List Leg) → is-round ss d ks ≡ true → how-long ss (r .0) ≤ how-long ss ks =
     λ ks h. let s = rotated ss d ks h c e in omega (arith, r .2, s .2, short .least (s .0) (s .1)) in

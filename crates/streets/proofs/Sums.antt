@@ -16,7 +16,7 @@ unfolding sum-below
 sum-split f g h zero e = refl
 sum-split f g h (suc n) e = let r = sum-split f g h n (λ i l. e i (omega arith)) in omega (arith, e n (omega arith))
 
-pub sum-le : (f g : ℕ → ℕ) (n : ℕ) → ((i : ℕ) → i < n → f i ≤ g i) → sum-below f n ≤ sum-below g n
+sum-le : (f g : ℕ → ℕ) (n : ℕ) → ((i : ℕ) → i < n → f i ≤ g i) → sum-below f n ≤ sum-below g n
 unfolding sum-below
 sum-le f g zero h = omega arith
 sum-le f g (suc n) h = let r = sum-le f g n (λ i l. h i (omega arith)) in omega (arith, h n (omega arith))
@@ -42,7 +42,7 @@ part-le f (suc n) i l =
     ]
 
 -- a sum that is not 0 has a part that is not 0
-pub some-part : (f : ℕ → ℕ) (n : ℕ) → 0 < sum-below f n → (i : ℕ) × (i < n) × (0 < f i)
+some-part : (f : ℕ → ℕ) (n : ℕ) → 0 < sum-below f n → (i : ℕ) × (i < n) × (0 < f i)
 unfolding sum-below
 some-part f zero h = absurd (omega arith)
 some-part f (suc n) h =
@@ -78,7 +78,7 @@ pub taken : (t : ℕ → ℕ) (e : ℕ) → 0 < t e → (i : ℕ) → t i ≡ ma
 taken t e some = one-more (λ i. t i - mark e i) t e (grind (arith, tells)) (λ i n. grind (arith, tells))
 
 -- from the front
-pub sum-front : (f : ℕ → ℕ) (n : ℕ) → sum-below f (suc n) ≡ f 0 + sum-below (λ i. f (suc i)) n
+sum-front : (f : ℕ → ℕ) (n : ℕ) → sum-below f (suc n) ≡ f 0 + sum-below (λ i. f (suc i)) n
 unfolding sum-below
 sum-front f zero = refl
 sum-front f (suc n) = let r = sum-front f n in omega arith
@@ -114,11 +114,15 @@ module _ (ss : List Street) (f : Street → ℕ) where
           let both : ℕ → ℕ = λ i. half i + half i in
           omega (arith, weigh-split t (λ i. t i % 2) both (λ i l. omega arith), weigh-split both half half (λ i l. refl))
 
-  pub weigh-one : (e : ℕ) → e < length ss → weigh ss f (mark e) ≡ f (street ss e)
+  weigh-one : (e : ℕ) → e < length ss → weigh ss f (mark e) ≡ f (street ss e)
   unfolding weigh
   weigh-one e l = sum-mark e (length ss) (λ i. f (street ss i)) l
 
-  pub weigh-part : (t : ℕ → ℕ) (i : ℕ) → i < length ss → t i * f (street ss i) ≤ weigh ss f t
+  -- one use more of street e
+  pub weigh-more : (t u : ℕ → ℕ) (e : ℕ) → e < length ss → ((i : ℕ) → u i ≡ mark e i + t i) → weigh ss f u ≡ f (street ss e) + weigh ss f t
+  weigh-more t u e l more = omega (arith, weigh-one e l, weigh-split u (mark e) t (λ i _. more i))
+
+  weigh-part : (t : ℕ → ℕ) (i : ℕ) → i < length ss → t i * f (street ss i) ≤ weigh ss f t
   unfolding weigh each
   weigh-part t i l = part-le (each t) (length ss) i l
 

@@ -13,14 +13,14 @@ use Rattle.std.proofs.shelf.Ways.{tells}
 use Rattle.streets.specs.Streets.{Street, street, Leg, may-go, leg-long, starts, stops, goes, how-long, mark, ends, total, ends-at, all-long}
 use Rattle.streets.specs.Counts.{weigh, Once-or-twice, Switched}
 use Rattle.streets.specs.Pairs.{Way}
-use Rattle.streets.proofs.Sums.{one-more, weigh-split, weigh-one}
+use Rattle.streets.proofs.Sums.{one-more, weigh-more}
 use Rattle.streets.proofs.Legs.{leg-there, leg-ends, leg-as-long}
 use Rattle.streets.proofs.Walks.{step, stands}
 
 module _ (ss : List Street) where
   -- nothing switched
-  pub unswitched : (t : ℕ → ℕ) → Once-or-twice ss t → (ends : ℕ → ℕ) → ((k : ℕ) → ends k % 2 ≡ 0) → Switched ss t ends 0 t
-  unswitched t once ends even = record { still = once; parity = λ k. omega (arith, even k); cost = omega arith }
+  pub unswitched : (t : ℕ → ℕ) → Once-or-twice ss t → (added : ℕ → ℕ) → ((k : ℕ) → added k % 2 ≡ 0) → Switched ss t added 0 t
+  unswitched t once added even = record { still = once; parity = λ k. omega (arith, even k); cost = omega arith }
 
   -- one after the other
   pub switched-on : {t u v f g h : ℕ → ℕ} {m n : ℕ} →
@@ -32,27 +32,23 @@ module _ (ss : List Street) where
 
   -- street e switched: from once to twice, or back
   module _
-      (t u : ℕ → ℕ) (e : ℕ) (there : e < length ss)
+      (t u : ℕ → ℕ) (e : ℕ) (e-there : e < length ss)
       (once : Once-or-twice ss t)
       (here : u e + t e ≡ 3)
       (else-same : (i : ℕ) → (e ≡ i → ⊥) → u i ≡ t i)
     where
       weighs : (f : Street → ℕ) → (weigh ss f u ≡ f (street ss e) + weigh ss f t) ⊎ (weigh ss f t ≡ f (street ss e) + weigh ss f u)
       weighs f =
-          let one = weigh-one ss f e there in
+          let few = once e e-there in
           elim (cases-lt (t e) 2) [
-            | inl l ↦
-                let more = one-more t u e (omega (arith, here, once e there)) else-same in
-                inl (omega (arith, weigh-split ss f u (mark e) t (λ i _. more i)))
-            | inr l ↦
-                let more = one-more u t e (omega (arith, here, once e there)) (λ i n. sym (else-same i n)) in
-                inr (omega (arith, weigh-split ss f t (mark e) u (λ i _. more i)))
+            | inl l ↦ inl (weigh-more ss f t u e e-there (one-more t u e (omega (arith, here)) else-same))
+            | inr l ↦ inr (weigh-more ss f u t e e-there (one-more u t e (omega (arith, here)) (λ i n. sym (else-same i n))))
           ]
 
       pub switched-street : Switched ss t (ends (street ss e)) (street ss e .long) u
       switched-street =
           record {
-            still = λ i l. elim (cases-eq e i) [ inl s ↦ omega (arith, here, ap t s, ap u s, once e there) | inr n ↦ omega (arith, else-same i n, once i l) ];
+            still = λ i l. elim (cases-eq e i) [ inl s ↦ omega (arith, here, ap t s, ap u s, once e e-there) | inr n ↦ omega (arith, else-same i n, once i l) ];
             parity = λ k. omega (arith, weighs (λ s. ends s k));
             cost = omega (arith, weighs (λ s. s .long));
           }
@@ -72,7 +68,7 @@ module _ (ss : List Street) where
       record { still = s .still; parity = λ k. omega (arith, s .parity k, leg-ends ss l k); cost = omega (arith, s .cost, leg-as-long ss l) }
 
   -- along a walk
-  pub switched-walk : (t : ℕ → ℕ) (a : ℕ) (ls : List Leg) (b : ℕ) →
+  switched-walk : (t : ℕ → ℕ) (a : ℕ) (ls : List Leg) (b : ℕ) →
       Once-or-twice ss t →
       goes ss a ls b ≡ true →
       (u : ℕ → ℕ) × Switched ss t (λ k. mark a k + mark b k) (how-long ss ls) u

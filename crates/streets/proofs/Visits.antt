@@ -10,7 +10,7 @@ use Rattle.std.proofs.shelf.Tests.{cases-eq, cases-lt}
 use Rattle.std.proofs.shelf.Ways.{tells}
 use Rattle.streets.specs.Streets.{Street, street, Leg, forward, backward, may-go, goes, starts, stops, mark, times, ends}
 use Rattle.streets.specs.Counts.{weigh, degree, Even-but, Connected, Visit}
-use Rattle.streets.proofs.Sums.{ones, taken, weigh-split, weigh-one, weigh-some, weigh-nothing, some-street}
+use Rattle.streets.proofs.Sums.{ones, taken, weigh-split, weigh-more, weigh-some, weigh-nothing, some-street}
 use Rattle.streets.proofs.Legs.{leg-there, leg-may, leg-ends, starts-end, stops-end, leg-at}
 use Rattle.streets.proofs.Walks.{step, go-on, stands, stay, goes-append, times-append, weigh-none, weigh-leg}
 
@@ -70,9 +70,7 @@ module _ (ss : List Street) where
       -- what is left after the leg can be a walk from where it stops
       pub leg-even : Even-but ss left v w → Even-but ss less (stops ss l) w
       leg-even even k =
-          let f : Street → ℕ = λ s. ends s k in
-          let a = weigh-split ss f left (mark (l .along)) less (λ i _. split i) in
-          let b = weigh-one ss f (l .along) (leg-there ss l may) in
+          let more = weigh-more ss (λ s. ends s k) less left (l .along) (leg-there ss l may) split in
           omega (arith, even k, leg-ends ss l k, ap (λ (x : ℕ). mark x k) here)
 
   -- where something is left at a corner, a leg of it starts there
@@ -92,10 +90,9 @@ module _ (ss : List Street) where
   visit-leg bound left v w visit few even l may some here =
       let less : ℕ → ℕ = λ i. left i - mark (l .along) i in
       let split = taken left (l .along) some in
-      let a = weigh-split ss ones left (mark (l .along)) less (λ i _. split i) in
-      let b = weigh-one ss ones (l .along) (leg-there ss l may) in
+      let more = weigh-more ss ones less left (l .along) (leg-there ss l may) split in
       let on = visit less (stops ss l) w (omega arith) (leg-even left less v w l may here split even) in
-      let d = weigh-split ss ones less (times (on .walk)) (on .rest) (λ i _. on .seen .split i) in
+      let fewer = weigh-split ss ones less (times (on .walk)) (on .rest) (λ i _. on .seen .split i) in
       let home = visit (on .rest) v v (omega arith) (λ k. omega (arith, on .seen .even k)) in
       record { walk = home .walk ++ l ∷ on .walk; rest = home .rest; seen = join left less v w l may here split (on .seen) (home .seen) }
 

@@ -1,6 +1,6 @@
 -- Walks: taken apart at their first leg, joined, cut at a corner, and weighed by how often they use each street.
 use mathlib.Core.Path.{_≡_, refl, sym, ap, _∙_}
-use mathlib.Core.Logic.{_↔_, inl, inr}
+use mathlib.Core.Logic.{inl, inr}
 use mathlib.Core.Bool.{true, _&&_}
 use mathlib.Core.List.{List, [], _∷_, _++_}
 use Prim.Native.Nat.{ℕ, _+_, _<_}
@@ -9,10 +9,10 @@ use lib.Dec.{eqb}
 use lib.ListN.{length}
 use Rattle.std.proofs.shelf.Tests.{and-parts, and-from, eqb-true, eq-eqb, cases-lt}
 use Rattle.std.proofs.shelf.Ways.{tells}
-use Rattle.streets.specs.Streets.{Street, street, Leg, forward, may-go, goes, starts, stops, how-long, mark, times, ends}
-use Rattle.streets.specs.Counts.{weigh, stretch, Connected}
-use Rattle.streets.proofs.Sums.{weigh-split, weigh-one}
-use Rattle.streets.proofs.Legs.{leg-there, leg-as-long, starts-end, leg-at}
+use Rattle.streets.specs.Streets.{Street, street, Leg, may-go, goes, starts, stops, how-long, times, ends}
+use Rattle.streets.specs.Counts.{weigh, stretch}
+use Rattle.streets.proofs.Sums.{weigh-split, weigh-more}
+use Rattle.streets.proofs.Legs.{leg-there, leg-as-long, leg-at}
 
 -- a walk by its first leg
 pub record Step (ss : List Street) (c : ℕ) (l : Leg) (ls : List Leg) (d : ℕ) : Type 0 where
@@ -81,9 +81,7 @@ module _ (ss : List Street) where
       may-go ss l ≡ true →
       weigh ss f (times (l ∷ ls)) ≡ f (street ss (l .along)) + weigh ss f (times ls)
   unfolding times
-  weigh-leg f l ls h =
-      let split = weigh-split ss f (times (l ∷ ls)) (mark (l .along)) (times ls) (λ i _. refl) in
-      omega (arith, weigh-one ss f (l .along) (leg-there ss l h))
+  weigh-leg f l ls h = weigh-more ss f (times ls) (times (l ∷ ls)) (l .along) (leg-there ss l h) (λ i. refl)
 
   -- a walk is as long as its counts say
   pub by-counts : (c : ℕ) (ls : List Leg) (d : ℕ) → goes ss c ls d ≡ true → how-long ss ls ≡ stretch ss (times ls)
@@ -131,15 +129,3 @@ module _ (ss : List Street) where
               | inr b ↦ cut-later c l ls d k s (cut-here (stops ss l) ls d k (s .on) b)
             ]
       ]
-
-  -- counts of the same streets as a walk's hang together
-  pub walk-connected : (c : ℕ) (ls : List Leg) (d : ℕ) (t : ℕ → ℕ) →
-      goes ss c ls d ≡ true →
-      ((i : ℕ) → i < length ss → 0 < times ls i ↔ 0 < t i) →
-      Connected ss t c
-  walk-connected c ls d t h same i l u =
-      let a = street ss i .one in
-      let r = cut c ls d i a h (same i l .1 u) (starts-end ss (forward i)) in
-      let used : (e : ℕ) → 0 < times (r .before) e → 0 < times ls e =
-      λ e v. omega (arith, times-append (r .before) (r .behind) e, ap (λ (ms : List Leg). times ms e) (r .whole)) in
-      (r .before, r .to, λ e v. same e (used-there c (r .before) a e (r .to) v) .0 (used e v))

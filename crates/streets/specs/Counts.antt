@@ -21,7 +21,7 @@ degree ss t k = weigh ss (λ s. ends s k) t
 abbrev pub stretch : List Street → (ℕ → ℕ) → ℕ
 stretch ss t = weigh ss (λ s. s .long) t
 
--- a walk from v to w can have these counts: degrees are even but at v and w, where they are odd unless v = w
+-- degrees are even but at v and w, where they are odd unless v = w: so are those of every walk from v to w
 abbrev pub Even-but : List Street → (ℕ → ℕ) → ℕ → ℕ → Type 0
 Even-but ss t v w = (k : ℕ) → (degree ss t k + (mark v k + mark w k)) % 2 ≡ 0
 
@@ -33,7 +33,7 @@ Connected ss t c =
     0 < t i →
     (ls : List Leg) × (goes ss c ls (street ss i .one) ≡ true) × ((e : ℕ) → 0 < times ls e → 0 < t e)
 
--- a walk from v to w that uses up what was left and leaves a rest: all degrees of the rest are even, and none of it is at a corner of the walk
+-- a walk from v to w along streets that were left, and the rest of them: it has even degrees, and nothing of it is at a corner of the walk
 pub record Visit (ss : List Street) (left : ℕ → ℕ) (v w : ℕ) (walk : List Leg) (rest : ℕ → ℕ) : Type 0 where
   pub walks : goes ss v walk w ≡ true
   pub split : (i : ℕ) → left i ≡ times walk i + rest i
@@ -43,8 +43,8 @@ pub record Visit (ss : List Street) (left : ℕ → ℕ) (v w : ℕ) (walk : Lis
 abbrev pub Once-or-twice : List Street → (ℕ → ℕ) → Type 0
 Once-or-twice ss t = (i : ℕ) → i < length ss → (1 ≤ t i) × (t i ≤ 2)
 
--- u is t with some streets switched between once and twice: that adds `ends` to the degrees, up to an even number, and at most n to the length
-pub record Switched (ss : List Street) (t : ℕ → ℕ) (ends : ℕ → ℕ) (n : ℕ) (u : ℕ → ℕ) : Type 0 where
+-- what switching streets between once and twice makes of t: degrees are odd or even as with `added` added, and at most n is added to the length
+pub record Switched (ss : List Street) (t : ℕ → ℕ) (added : ℕ → ℕ) (n : ℕ) (u : ℕ → ℕ) : Type 0 where
   pub still : Once-or-twice ss u
-  pub parity : (k : ℕ) → degree ss u k % 2 ≡ (degree ss t k + ends k) % 2
+  pub parity : (k : ℕ) → degree ss u k % 2 ≡ (degree ss t k + added k) % 2
   pub cost : stretch ss u ≤ stretch ss t + n

@@ -47,12 +47,11 @@ positive (s ∷ ss) = ltb 0 (s .long) && positive ss
 abbrev pub Never-thrice : Type 0
 Never-thrice = (ss : List Street) (c i : ℕ) (ls : List Leg) → positive ss ≡ true → Shortest ss c ls → times ls i ≤ 2
 
--- from every corner that has a street there is a shortest round of the same length
+-- if there is a shortest round from one corner, there is one of the same length from every corner that has a street
 abbrev pub From-anywhere : Type 0
 From-anywhere =
     (ss : List Street) (c d : ℕ) (ls : List Leg) →
     Shortest ss c ls →
-    0 < ends-at ss c →
     0 < ends-at ss d →
     (ms : List Leg) × Shortest ss d ms × (how-long ss ms ≡ how-long ss ls)
 
