@@ -14,7 +14,7 @@ use Rattle.streets.proofs.Sums.{ones, weigh-split, weigh-more, weigh-ones, wei
 use Rattle.streets.proofs.Walks.{by-counts}
 use Rattle.streets.proofs.Parity.{parity}
 use Rattle.streets.proofs.Tests.{from-round}
-use Rattle.streets.proofs.Exchange.{Paired, again, exchange}
+use Rattle.streets.proofs.Exchange.{Paired, paired-as, exchange}
 
 module _ (W : Links) (law : Linking W) (ss : List Street) (spans : Spans W ss) where
   none : (t : ℕ → ℕ) → weigh ss ones t ≤ 0 → Paired W (degree ss t) (stretch ss t)
@@ -34,7 +34,7 @@ module _ (W : Links) (law : Linking W) (ss : List Street) (spans : Spans W ss) w
     one-street r =
         let s = street ss i in
         let once : (k : ℕ) → ends-at (r .pairs) k ≤ 1 = λ k. omega (arith, r .pairing .each k) in
-        again
+        paired-as
         (exchange W law (r .pairs) (r .pairing .linked) once (s .one) (s .other) (s .long) (spans i l))
         (λ k. omega (arith, r .pairing .each k, split (λ s. ends s k)))
         (omega (arith, r .cost, split (λ s. s .long)))

@@ -16,7 +16,8 @@ unfolding total
 total-ones [] = refl
 total-ones (s ∷ ss) = let r = total-ones ss in omega arith
 
-total-most : (f : Street → ℕ) (m : ℕ) (ss : List Street) → All (λ s. f s ≤ m) ss → total f ss ≤ length ss * m
+-- at most m for each street
+pub total-most : (f : Street → ℕ) (m : ℕ) (ss : List Street) → All (λ s. f s ≤ m) ss → total f ss ≤ length ss * m
 unfolding total
 total-most f m [] h = omega arith
 total-most f m (s ∷ ss) h = let r = total-most f m ss (h .1) in omega (arith, h .0)

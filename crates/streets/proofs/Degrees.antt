@@ -1,4 +1,4 @@
--- Odd corners: how many there are, and that none is there just if a round can use each street once.
+-- The number of odd corners is even, and Euler's theorem.
 use mathlib.Core.Path.{_≡_, refl, _∙_}
 use mathlib.Core.Logic.{inl, inr}
 use mathlib.Core.Bool.{true, _&&_}

@@ -16,8 +16,8 @@ pub record Paired (W : Links) (in-pairs : ℕ → ℕ) (n : ℕ) : Type 0 where
   pub pairing : Pairing W (λ k. in-pairs k % 2) pairs
   pub cost : all-long pairs ≤ n
 
-pub again : {W : Links} {f g : ℕ → ℕ} {m n : ℕ} → Paired W f m → ((k : ℕ) → f k % 2 ≡ g k % 2) → m ≤ n → Paired W g n
-again r same less =
+pub paired-as : {W : Links} {f g : ℕ → ℕ} {m n : ℕ} → Paired W f m → ((k : ℕ) → f k % 2 ≡ g k % 2) → m ≤ n → Paired W g n
+paired-as r same less =
     record {
       pairs = r .pairs;
       pairing = record { each = λ k. omega (arith, r .pairing .each k, same k); linked = r .pairing .linked };
@@ -46,6 +46,7 @@ module _ (W : Links) (law : Linking W) where
             record { far = p .one; link = rw e at w; both = λ k. omega (arith, ap (λ (x : ℕ). mark x k) e) }
       ]
 
+  -- the pair of a link, or none where it comes back to its corner
   only : (a b n : ℕ) → W a b n → Paired W (λ k. mark a k + mark b k) n
   unfolding total
   only a b n w =
@@ -54,37 +55,32 @@ module _ (W : Links) (law : Linking W) where
         | inr d ↦ record { pairs = joining a b n ∷ []; pairing = record { each = λ k. grind (arith, tells); linked = (w, tt) }; cost = omega arith }
       ]
 
-  -- The link is pushed down the list of pairs. Where it shares an end with one, that pair goes, and the two are joined
+  -- p goes, and a link that meets it at a goes on from its other corner
+  meet : (p : Street) → W (p .one) (p .other) (p .long) → (ends-left : ℕ → ℕ) (left : ℕ) →
+      ((a b n : ℕ) → W a b n → Paired W (λ k. ends-left k + (mark a k + mark b k)) (left + n)) →
+      (a b n : ℕ) → W a b n → 0 < ends p a → Paired W (λ k. (ends p k + ends-left k) + (mark a k + mark b k)) ((p .long + left) + n)
+  meet p w ends-left left on a b n v h =
+      let s = seen-from p w a h in
+      paired-as (on (s .far) b (p .long + n) (law .joined (s .far) a b (p .long) n (s .link) v)) (λ k. omega (arith, s .both k)) (omega arith)
+
+  -- A link is pushed down a list of pairs that have each corner at most once
   pub exchange : (ps : List Street) →
       All (λ p. W (p .one) (p .other) (p .long)) ps →
       ((k : ℕ) → ends-at ps k ≤ 1) →
       (a b n : ℕ) → W a b n → Paired W (λ k. ends-at ps k + (mark a k + mark b k)) (all-long ps + n)
   unfolding total
-  exchange [] none once a b n w = again (only a b n w) (λ k. omega arith) (omega arith)
+  exchange [] none once a b n w = paired-as (only a b n w) (λ k. omega arith) (omega arith)
   exchange (p ∷ ps) ws once a b n w =
-      let few : (k : ℕ) → ends-at ps k ≤ 1 = λ k. omega (arith, once k) in
+      let on = exchange ps (ws .1) (λ k. omega (arith, once k)) in
       elim (cases-lt 0 (ends p a)) [
-        | inl h ↦
-            let s = seen-from p (ws .0) a h in
-            let r = exchange ps (ws .1) few (s .far) b (p .long + n) (law .joined (s .far) a b (p .long) n (s .link) w) in
-            again r (λ k. omega (arith, s .both k)) (omega arith)
+        | inl h ↦ meet p (ws .0) (ends-at ps) (all-long ps) on a b n w h
         | inr h ↦
             elim (cases-lt 0 (ends p b)) [
-              | inl g ↦
-                  let s = seen-from p (ws .0) b g in
-                  let back = law .turned (s .far) b (p .long) (s .link) in
-                  let r = exchange ps (ws .1) few a (s .far) (n + p .long) (law .joined a b (s .far) n (p .long) w back) in
-                  again r (λ k. omega (arith, s .both k)) (omega arith)
+              | inl g ↦ paired-as (meet p (ws .0) (ends-at ps) (all-long ps) on b a n (law .turned a b n w) g) (λ k. omega arith) (omega arith)
               | inr g ↦
-                  let r = exchange ps (ws .1) few a b n w in
-                  record {
-                    pairs = p ∷ r .pairs;
-                    pairing =
-                        record {
-                          each = λ k. omega (arith, r .pairing .each k, once k, apart p a k h, apart p b k g);
-                          linked = (ws .0, r .pairing .linked);
-                        };
-                    cost = omega (arith, r .cost);
-                  }
+                  let r = on a b n w in
+                  let each : (k : ℕ) → ends-at (p ∷ r .pairs) k ≡ (ends-at (p ∷ ps) k + (mark a k + mark b k)) % 2 =
+                  λ k. omega (arith, r .pairing .each k, once k, apart p a k h, apart p b k g) in
+                  record { pairs = p ∷ r .pairs; pairing = record { each = each; linked = (ws .0, r .pairing .linked) }; cost = omega (arith, r .cost) }
             ]
       ]

@@ -22,7 +22,7 @@ pub pairs-below : Pairs-below
 pairs-below ss c ms h = round-below (Way ss) (way-links ss (both-ways ss)) ss (way-spans ss) c ms h
 
 pub metric-below : Metric-below
-metric-below ss d c ms metric spans h = round-below (No-shorter d) (metric-links d metric) ss spans c ms h
+metric-below ss n d c ms metric spans h = round-below (No-shorter n d) (metric-links n d metric) ss spans c ms h
 
 pub pairs-above : Pairs-above
 pairs-above ss c ps j pairing =

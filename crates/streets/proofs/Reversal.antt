@@ -21,7 +21,7 @@ cond-not true x y = refl
 cond-not false x y = refl
 
 module _ (ss : List Street) where
-  -- so are all streets there are
+  -- every street may be used both ways, as streets are
   pub both-ways : Both-ways ss
   both-ways = record { may-turn = λ l h. leg-may ss (turn l) (leg-there ss l h); long-turn = λ l. leg-as-long ss (turn l) ∙ sym (leg-as-long ss l) }
 

@@ -52,6 +52,9 @@ module _ (ss : List Street) where
       let p = counted-round t c (r .0) (r .1) (r .2) all in
       record { legs = r .0; goes-all = p .0; counts = r .2; long = p .1 }
 
+  street-at : (d : ℕ) → 0 < ends-at ss d → (i : ℕ) × (i < length ss) × (0 < ends (street ss i) d)
+  street-at d e = let s = some-street ss (λ s. ends s d) (λ _. 1) (omega (arith, weigh-ones ss (λ s. ends s d))) in (s .0, s .1, s .3)
+
   -- a walk with a leg starts at a corner that has a street
   starts-at-street : (c : ℕ) (ls : List Leg) (d i : ℕ) → goes ss c ls d ≡ true → 0 < times ls i → 0 < ends-at ss c
   unfolding times
@@ -93,9 +96,8 @@ module _ (ss : List Street) where
     rotated : (d : ℕ) → 0 < ends-at ss d → (ms : List Leg) × (is-round ss d ms ≡ true) × (how-long ss ms ≡ how-long ss ls)
     rotated d e =
         let r = from-round ss c ls h in
-        let f : Street → ℕ = λ s. ends s d in
-        let s = some-street ss f (λ _. 1) (omega (arith, weigh-ones ss f)) in
-        let p = cut ss c ls c (s .0) d (r .walks) (r .covers (s .0) (s .1)) (s .3) in
+        let s = street-at d e in
+        let p = cut ss c ls c (s .0) d (r .walks) (r .covers (s .0) (s .1)) (s .2) in
         let a = p .before in
         let b = p .behind in
         let covers : (i : ℕ) → i < length ss → 0 < times (b ++ a) i =
@@ -127,7 +129,7 @@ never-thrice ss c i ls pos short =
 
 pub from-anywhere : From-anywhere
 from-anywhere ss c d ls short f =
-    let s = some-street ss (λ s. ends s d) (λ _. 1) (omega (arith, weigh-ones ss (λ s. ends s d))) in
+    let s = street-at ss d f in
     let q = from-round ss c ls (short .goes-all) in
     let e = starts-at-street ss c ls c (s .0) (q .walks) (q .covers (s .0) (s .1)) in
     let r = rotated ss c ls (short .goes-all) d f in

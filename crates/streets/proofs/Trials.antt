@@ -1,4 +1,4 @@
--- The test of all rounds that use no street more than twice shows a round to be shortest.
+-- The test of all rounds that use no street more than twice tells which rounds are shortest; so there is a shortest one.
 use mathlib.Core.Path.{_≡_, refl, sym, subst}
 use mathlib.Core.Logic.{_⊎_, inl, inr}
 use mathlib.Core.Bool.{Bool, true, false, not, _&&_, _||_}
@@ -12,7 +12,7 @@ use Rattle.std.proofs.shelf.Tests.{and-parts, and-from, and-cases, or-cases, or
 use Rattle.std.proofs.shelf.Ways.{tells, decides-ltb, decides-below-and}
 use Rattle.streets.specs.Streets.{Street, Leg, forward, backward, starts, stops, may-go, leg-long, goes, how-long, mark, times, all-gone, is-round, at-most-twice}
 use Rattle.streets.specs.Calls.{Shortest}
-use Rattle.streets.specs.Trials.{every-leg, all-used, complete, can-go, next, none-below, tried}
+use Rattle.streets.specs.Trials.{every-leg, all-used, complete, can-go, next, none-from, none-below, tried}
 use Rattle.streets.specs.Theorems.{Joined, Tried, triangle, Triangle-shortest, path, Path-shortest}
 use Rattle.streets.proofs.Legs.{leg-there}
 use Rattle.streets.proofs.Walks.{step, go-on, stands, stay, used-there}
@@ -50,21 +50,6 @@ leg-fails (suc n) p h =
 implied : (x y : Bool) → (not x || y) ≡ true → x ≡ true → y ≡ true
 implied true y h e = h
 implied false y h e = absurd (both-ways false refl e)
-
--- what the test of one corner says, b being 0 or not, a round complete or not, and all longer walks tried
-held : (b : ℕ) (x y : Bool) → (leb b 0 || (not x && y)) ≡ true → (b ≤ 0) ⊎ ((x ≡ false) × (y ≡ true))
-held b x y h =
-    elim (or-cases (leb b 0) (not x && y) h) [
-      | inl l ↦ inl (leb-true b 0 l)
-      | inr n ↦ let p = and-parts (not x) y n in inr (not-true x (p .0), p .1)
-    ]
-
-failed : (b : ℕ) (x y : Bool) → (leb b 0 || (not x && y)) ≡ false → (0 < b) × ((x ≡ true) ⊎ (y ≡ false))
-failed b x y h =
-    let p = or-parts (leb b 0) (not x && y) h in (
-      leb-false b 0 (p .0),
-      elim (and-cases (not x) y (p .1)) [ inl n ↦ inl (not-false x n) | inr n ↦ inr n ],
-    )
 
 -- a walk that completes a round, within what is left
 record Completes (ss : List Street) (c : ℕ) (left : ℕ → ℕ) (v : ℕ) (ls : List Leg) : Type 0 where
@@ -126,44 +111,64 @@ module _ (ss : List Street) (c : ℕ) where
           short = omega (arith, r .short);
         }
 
+    -- where a test at v holds, and where it fails
+    module _ (b : ℕ) (later : Bool) where
+      held : none-from ss c left v b later ≡ true → (b ≤ 0) ⊎ ((complete ss c left v ≡ false) × (later ≡ true))
+      held h =
+          elim (or-cases (leb b 0) (not (complete ss c left v) && later) h) [
+            | inl l ↦ inl (leb-true b 0 l)
+            | inr n ↦ let p = and-parts (not (complete ss c left v)) later n in inr (not-true (complete ss c left v) (p .0), p .1)
+          ]
+
+      failed : none-from ss c left v b later ≡ false → (0 < b) × ((complete ss c left v ≡ true) ⊎ (later ≡ false))
+      failed h =
+          let p = or-parts (leb b 0) (not (complete ss c left v) && later) h in (
+            leb-false b 0 (p .0),
+            elim (and-cases (not (complete ss c left v)) later (p .1)) [ inl n ↦ inl (not-false (complete ss c left v) n) | inr n ↦ inr n ],
+          )
+
+      stopped : none-from ss c left v b later ≡ true → Completes ss c left v [] → b ≤ 0
+      stopped t h = elim (held t) [ inl z ↦ z | inr p ↦ absurd (both-ways (complete ss c left v) (p .0) (no-leg h)) ]
+
+  -- the legs that are tried from v
+  tries : ℕ → (ℕ → ℕ) → ℕ → ℕ → Leg → Bool
+  tries m left v b = next ss (none-below ss c m) left v b
+
   -- where the test holds, no walk completes a round at a length below b
   none-found : (m : ℕ) (left : ℕ → ℕ) (v b : ℕ) (ls : List Leg) →
       none-below ss c m left v b ≡ true →
       Completes ss c left v ls →
       length ls ≤ m →
       b ≤ how-long ss ls
-  unfolding none-below how-long
-  none-found zero left v b [] t h few =
-      elim (held b (complete ss c left v) true t) [ inl z ↦ z | inr p ↦ absurd (both-ways (complete ss c left v) (p .0) (no-leg left v h)) ]
+  unfolding none-below how-long tries
+  none-found zero left v b [] t h few = stopped left v b true t h
   none-found zero left v b (l ∷ ls) t h few = absurd (omega arith)
-  none-found (suc m) left v b [] t h few =
-      let longer = every-leg (length ss) (next ss (none-below ss c m) left v b) in
-      elim (held b (complete ss c left v) longer t) [ inl z ↦ z | inr p ↦ absurd (both-ways (complete ss c left v) (p .0) (no-leg left v h)) ]
+  none-found (suc m) left v b [] t h few = stopped left v b (every-leg (length ss) (tries m left v b)) t h
   none-found (suc m) left v b (l ∷ ls) t h few =
-      let longer = every-leg (length ss) (next ss (none-below ss c m) left v b) in
-      elim (held b (complete ss c left v) longer t) [
+      elim (held left v b (every-leg (length ss) (tries m left v b)) t) [
         | inl z ↦ omega arith
         | inr p ↦
             let less : ℕ → ℕ = λ i. left i - mark (l .along) i in
             let rest = b - leg-long ss l in
-            let on = none-below ss c m less (stops ss l) rest in
-            let q = leg-passes (length ss) (next ss (none-below ss c m) left v b) (p .1) l (leg-there ss l (step ss v l ls c (h .walks) .may)) in
-            let r = none-found m less (stops ss l) rest ls (implied (can-go ss left v l) on q (first-leg left v l ls h)) (after-leg left v l ls h) (omega arith) in
+            let here = leg-there ss l (step ss v l ls c (h .walks) .may) in
+            let q = leg-passes (length ss) (tries m left v b) (p .1) l here in
+            let on = implied (can-go ss left v l) (none-below ss c m less (stops ss l) rest) q (first-leg left v l ls h) in
+            let r = none-found m less (stops ss l) rest ls on (after-leg left v l ls h) (omega arith) in
             omega arith
       ]
 
   -- where it fails, one does
   one-found : (m : ℕ) (left : ℕ → ℕ) (v b : ℕ) → none-below ss c m left v b ≡ false → Found ss c left v b
-  unfolding none-below
+  unfolding none-below tries
   one-found zero left v b h =
-      let p = failed b (complete ss c left v) true h in
+      let p = failed left v b true h in
       elim (p .1) [ inl d ↦ found-here left v b d (p .0) | inr e ↦ absurd (both-ways true e refl) ]
   one-found (suc m) left v b h =
-      let p = failed b (complete ss c left v) (every-leg (length ss) (next ss (none-below ss c m) left v b)) h in
+      let p = failed left v b (every-leg (length ss) (tries m left v b)) h in
       elim (p .1) [
         | inl d ↦ found-here left v b d (p .0)
         | inr e ↦
-            let f = leg-fails (length ss) (next ss (none-below ss c m) left v b) e in
+            let f = leg-fails (length ss) (tries m left v b) e in
             let l = f .0 in
             let less : ℕ → ℕ = λ i. left i - mark (l .along) i in
             let rest = b - leg-long ss l in
@@ -181,7 +186,7 @@ module _ (ss : List Street) (c : ℕ) where
         enough = λ i l. omega (arith, r .covers i l);
       }
 
-  -- and no other round is shorter than these
+  -- a round that passes the test is shortest
   passed : (ls : List Leg) → tried ss c ls ≡ true → Shortest ss c ls
   unfolding tried
   passed ls h =

@@ -33,17 +33,18 @@ pub record Pairing (W : Links) (in-pairs : ℕ → ℕ) (ps : List Street) : Typ
 abbrev pub odd-once : List Street → ℕ → ℕ
 odd-once ss k = ends-at ss k % 2
 
-pub record Metric (d : ℕ → ℕ → ℕ) : Type 0 where
-  pub same : (a : ℕ) → d a a ≡ 0
-  pub turned : (a b : ℕ) → d a b ≡ d b a
-  pub joined : (a b c : ℕ) → d a c ≤ d a b + d b c
+-- a metric on the corners below n; different corners may be at a distance of 0
+pub record Metric (n : ℕ) (d : ℕ → ℕ → ℕ) : Type 0 where
+  pub same : (a : ℕ) → a < n → d a a ≡ 0
+  pub symmetric : (a b : ℕ) → a < n → b < n → d a b ≡ d b a
+  pub triangle : (a b c : ℕ) → a < n → b < n → c < n → d a c ≤ d a b + d b c
 
--- links no shorter than d
-abbrev pub No-shorter : (ℕ → ℕ → ℕ) → Links
-No-shorter d a b n = d a b ≤ n
+-- links between corners below n that are no shorter than d
+abbrev pub No-shorter : ℕ → (ℕ → ℕ → ℕ) → Links
+No-shorter n d a b m = (a < n) × (b < n) × (d a b ≤ m)
 
--- d has the lengths of shortest ways, and cap where there is none
-pub record Shortest-ways (ss : List Street) (cap : ℕ) (d : ℕ → ℕ → ℕ) : Type 0 where
-  pub capped : (a b : ℕ) → d a b ≤ cap
-  pub way : (a b : ℕ) → d a b < cap → Way ss a b (d a b)
-  pub least : (a b n : ℕ) → Way ss a b n → d a b ≤ n
+-- d has, for corners below n, the lengths of shortest ways, and cap where there is none
+pub record Shortest-ways (ss : List Street) (n cap : ℕ) (d : ℕ → ℕ → ℕ) : Type 0 where
+  pub capped : (a b : ℕ) → a < n → b < n → d a b ≤ cap
+  pub way : (a b : ℕ) → a < n → b < n → d a b < cap → Way ss a b (d a b)
+  pub least : (a b m : ℕ) → a < n → b < n → Way ss a b m → d a b ≤ m

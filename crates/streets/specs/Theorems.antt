@@ -79,16 +79,16 @@ Pairs-below =
     is-round ss c ms ≡ true →
     (ps : List Street) × Pairing (Way ss) (odd-once ss) ps × (all-long ss + all-long ps ≤ how-long ss ms)
 
--- or by a metric that is nowhere longer than a street, in place of ways
+-- the same with distances in place of ways, by any metric in which no street is shorter than the distance of its ends
 abbrev pub Metric-below : Type 0
 Metric-below =
-    (ss : List Street) (d : ℕ → ℕ → ℕ) (c : ℕ) (ms : List Leg) →
-    Metric d →
-    Spans (No-shorter d) ss →
+    (ss : List Street) (n : ℕ) (d : ℕ → ℕ → ℕ) (c : ℕ) (ms : List Leg) →
+    Metric n d →
+    Spans (No-shorter n d) ss →
     is-round ss c ms ≡ true →
-    (ps : List Street) × Pairing (No-shorter d) (odd-once ss) ps × (all-long ss + all-long ps ≤ how-long ss ms)
+    (ps : List Street) × Pairing (No-shorter n d) (odd-once ss) ps × (all-long ss + all-long ps ≤ how-long ss ms)
 
--- any ways that join the odd corners in pairs give a round no longer than they and all streets, which uses none more than twice
+-- in a connected town, any ways that join the odd corners in pairs give a round no longer than they and all streets, which uses none more than twice
 abbrev pub Pairs-above : Type 0
 Pairs-above =
     (ss : List Street) (c : ℕ) (ps : List Street) →
@@ -101,7 +101,7 @@ pub record Cheapest (ss : List Street) (ps : List Street) : Type 0 where
   pub pairing : Pairing (Way ss) (odd-once ss) ps
   pub least : (qs : List Street) → Pairing (Way ss) (odd-once ss) qs → all-long ps ≤ all-long qs
 
--- there are cheapest ones, and whichever they are, a shortest round is just as long as they and all streets
+-- in a connected town there are cheapest ones, and whichever they are, a shortest round is just as long as they and all streets
 abbrev pub Postman : Type 0
 Postman =
     (ss : List Street) (c : ℕ) →

@@ -30,12 +30,14 @@ next ss on left v b l =
     let after = on (λ i. left i - mark (l .along) i) (stops ss l) (b - leg-long ss l) in
     not (can-go ss left v l) || after
 
+-- no round is complete at v at a length below b, nor later on
+abbrev pub none-from : List Street → ℕ → (ℕ → ℕ) → ℕ → ℕ → Bool → Bool
+none-from ss c left v b later = leb b 0 || (not (complete ss c left v) && later)
+
 -- no walk of at most m legs from v completes a round from c at a length below b
 unfoldable pub none-below : List Street → ℕ → ℕ → (ℕ → ℕ) → ℕ → ℕ → Bool
-none-below ss c zero left v b = leb b 0 || (not (complete ss c left v) && true)
-none-below ss c (suc m) left v b =
-    let longer = every-leg (length ss) (next ss (none-below ss c m) left v b) in
-    leb b 0 || (not (complete ss c left v) && longer)
+none-below ss c zero left v b = none-from ss c left v b true
+none-below ss c (suc m) left v b = let later = every-leg (length ss) (next ss (none-below ss c m) left v b) in none-from ss c left v b later
 
 -- ls is a round from c, and no round that uses each street at most twice is shorter
 unfoldable pub tried : List Street → ℕ → List Leg → Bool
