@@ -52,6 +52,7 @@ module _ (ss : List Street) where
       let p = counted-round t c (r .0) (r .1) (r .2) all in
       record { legs = r .0; goes-all = p .0; counts = r .2; long = p .1 }
 
+  -- a street that ends at d
   street-at : (d : ℕ) → 0 < ends-at ss d → (i : ℕ) × (i < length ss) × (0 < ends (street ss i) d)
   street-at d e = let s = some-street ss (λ s. ends s d) (λ _. 1) (omega (arith, weigh-ones ss (λ s. ends s d))) in (s .0, s .1, s .3)
 

@@ -14,10 +14,10 @@ use Rattle.streets.proofs.Sums.{ones, taken, weigh-split, weigh-more, weigh-so
 use Rattle.streets.proofs.Legs.{leg-there, leg-may, leg-ends, starts-end, stops-end, leg-at}
 use Rattle.streets.proofs.Walks.{step, go-on, stands, stay, goes-append, times-append, weigh-none, weigh-leg}
 
-pub record Visited (ss : List Street) (left : ℕ → ℕ) (v w : ℕ) : Type 0 where
-  pub walk : List Leg
-  pub rest : ℕ → ℕ
-  pub seen : Visit ss left v w walk rest
+record Visited (ss : List Street) (left : ℕ → ℕ) (v w : ℕ) : Type 0 where
+  walk : List Leg
+  rest : ℕ → ℕ
+  seen : Visit ss left v w walk rest
 
 module _ (ss : List Street) where
   -- nothing is left here
@@ -41,7 +41,7 @@ module _ (ss : List Street) where
       (here : starts ss l ≡ v)
       (split : (i : ℕ) → left i ≡ mark (l .along) i + less i)
     where
-      -- a leg, what its other corner gives, then what is still left here
+      -- take a leg, visit the corner where it stops, and then this one again
       pub join : {on home : List Leg} {rest last : ℕ → ℕ} →
           Visit ss less (stops ss l) w on rest →
           Visit ss rest v v home last →
@@ -104,7 +104,7 @@ module _ (ss : List Street) where
         | inr m ↦ record { walk = []; rest = left; seen = stop left v w even (omega arith) }
       ]
 
-  pub visit : (left : ℕ → ℕ) (v w : ℕ) → Even-but ss left v w → Visited ss left v w
+  visit : (left : ℕ → ℕ) (v w : ℕ) → Even-but ss left v w → Visited ss left v w
   visit left v w even = visit-from (weigh ss ones left) left v w (omega arith) even
 
   module _ {left rest : ℕ → ℕ} {v w : ℕ} {walk : List Leg} (seen : Visit ss left v w walk rest) where
