@@ -43,7 +43,7 @@ pub record Metric (n : ℕ) (d : ℕ → ℕ → ℕ) : Type 0 where
 abbrev pub No-shorter : ℕ → (ℕ → ℕ → ℕ) → Links
 No-shorter n d a b m = (a < n) × (b < n) × (d a b ≤ m)
 
--- d has, for corners below n, the lengths of shortest ways, and cap where there is none
+-- d has, for corners below n, the lengths of shortest ways below cap; it is cap where there is no way, or none below cap
 pub record Shortest-ways (ss : List Street) (n cap : ℕ) (d : ℕ → ℕ → ℕ) : Type 0 where
   pub capped : (a b : ℕ) → a < n → b < n → d a b ≤ cap
   pub way : (a b : ℕ) → a < n → b < n → d a b < cap → Way ss a b (d a b)
