@@ -24,7 +24,7 @@ town-parts n s ss h =
     (ltb-true (s .one) n (q .0), ltb-true (s .other) n (q .1), p .1)
 
 -- past the town's corners there are no ends
-none-past : (ss : List Street) (n k : ℕ) → in-town n ss ≡ true → n ≤ k → ends-at ss k ≡ 0
+pub none-past : (ss : List Street) (n k : ℕ) → in-town n ss ≡ true → n ≤ k → ends-at ss k ≡ 0
 unfolding total
 none-past [] n k h l = refl
 none-past (s ∷ ss) n k h l = let p = town-parts n s ss h in let r = none-past ss n k (p .2) l in grind (arith, tells)
@@ -33,7 +33,7 @@ mark-once : (a n : ℕ) → a < n → sum-below (mark a) n ≡ 1
 mark-once a n l = sum-same (mark a) (λ i. mark a i * 1) n (λ i _. omega arith) ∙ sum-mark a n (λ _. 1) l
 
 -- every street has two ends
-two-ends : (ss : List Street) (n : ℕ) → in-town n ss ≡ true → sum-below (ends-at ss) n ≡ 2 * length ss
+pub two-ends : (ss : List Street) (n : ℕ) → in-town n ss ≡ true → sum-below (ends-at ss) n ≡ 2 * length ss
 unfolding total
 two-ends [] n h = sum-none (ends-at []) n (λ i _. refl)
 two-ends (s ∷ ss) n h =

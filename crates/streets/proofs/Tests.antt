@@ -1,17 +1,17 @@
 -- The tests of the definitions, each as the fact that it decides.
 use mathlib.Core.Path.{_≡_, refl}
-use mathlib.Core.Bool.{true}
+use mathlib.Core.Bool.{true, _&&_}
 use mathlib.Core.List.{List, [], _∷_}
 use Prim.Native.Nat.{ℕ, zero, suc, _%_, _<_}
 use native.Mathlib.Omega.{arith}
 use lib.Dec.{ltb, eqb}
 use lib.ListN.{length}
 use Rattle.std.specs.Orderings.{Decides}
-use Rattle.std.proofs.shelf.Tests.{and-parts, and-from, ltb-true}
+use Rattle.std.proofs.shelf.Tests.{and-parts, and-from, ltb-true, lt-ltb}
 use Rattle.std.proofs.shelf.Ways.{tells, decides-ltb, decides-eqb, decides-below-and}
 use Rattle.streets.specs.Streets.{Street, street, Leg, goes, times, all-gone, is-round, ends-at, odd-corners}
 use Rattle.streets.specs.Counts.{sum-below}
-use Rattle.streets.specs.Theorems.{once-each, positive}
+use Rattle.streets.specs.Theorems.{in-town, once-each, positive}
 
 all-gone-decides : (ls : List Leg) (n : ℕ) → Decides (all-gone ls n) ((i : ℕ) → i < n → 0 < times ls i)
 unfolding all-gone
@@ -39,6 +39,19 @@ unfolding positive
 positive-at [] h i l = absurd (omega arith)
 positive-at (s ∷ ss) h zero l = ltb-true 0 (s .long) (and-parts (ltb 0 (s .long)) (positive ss) h .0)
 positive-at (s ∷ ss) h (suc i) l = positive-at ss (and-parts (ltb 0 (s .long)) (positive ss) h .1) i (omega arith)
+
+pub positive-from : (ss : List Street) → ((i : ℕ) → i < length ss → 0 < street ss i .long) → positive ss ≡ true
+unfolding positive
+positive-from [] h = refl
+positive-from (s ∷ ss) h = and-from (ltb 0 (s .long)) (positive ss) (lt-ltb 0 (s .long) (h 0 (omega arith))) (positive-from ss (λ i l. h (suc i) (omega arith)))
+
+pub in-town-from : (n : ℕ) (ss : List Street) → ((i : ℕ) → i < length ss → (street ss i .one < n) × (street ss i .other < n)) → in-town n ss ≡ true
+unfolding in-town
+in-town-from n [] h = refl
+in-town-from n (s ∷ ss) h =
+    let p = h 0 (omega arith) in
+    let here = and-from (ltb (s .one) n) (ltb (s .other) n) (lt-ltb (s .one) n (p .0)) (lt-ltb (s .other) n (p .1)) in
+    and-from (ltb (s .one) n && ltb (s .other) n) (in-town n ss) here (in-town-from n ss (λ i l. h (suc i) (omega arith)))
 
 -- how many corners are odd, as a sum
 pub odd-sum : (ss : List Street) (n : ℕ) → odd-corners ss n ≡ sum-below (λ k. ends-at ss k % 2) n

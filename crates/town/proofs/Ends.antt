@@ -1,0 +1,72 @@
+-- How many ends there are, at a corner and before it, and how often a street is in a corner's list.
+use mathlib.Core.Path.{_≡_, refl, ap, _∙_}
+use mathlib.Core.Logic.{inl, inr}
+use mathlib.Core.Bool.{cond}
+use mathlib.Core.List.{List, []}
+use Prim.Native.Nat.{ℕ, zero, suc, _+_, _*_, _≤_, _<_}
+use native.Mathlib.Omega.{arith}
+use lib.ListN.{length, replicate}
+use Rattle.std.proofs.shelf.Lists.{length-append, length-replicate}
+use Rattle.std.proofs.shelf.Tests.{cases-lt}
+use Rattle.std.proofs.shelf.Ways.{tells}
+use Rattle.streets.specs.Streets.{Street, street, mark, ends, ends-at}
+use Rattle.streets.specs.Counts.{sum-below, weigh}
+use Rattle.streets.proofs.Sums.{sum-same, weigh-ones}
+use Rattle.town.specs.Corners.{at-below, streets-at, ends-before}
+
+pub sum-upto : (f : ℕ → ℕ) (i n : ℕ) → i ≤ n → sum-below f i ≤ sum-below f n
+unfolding sum-below
+sum-upto f i zero h = let e : i ≡ 0 = omega arith in omega (arith, ap (sum-below f) e)
+sum-upto f i (suc n) h =
+    elim (cases-lt n i) [
+      | inl m ↦ let e : i ≡ suc n = omega arith in omega (arith, ap (sum-below f) e)
+      | inr m ↦ omega (arith, sum-upto f i n m)
+    ]
+
+-- the ends at c of the streets below i
+abbrev pub ends-below : List Street → ℕ → ℕ → ℕ
+ends-below ss i c = sum-below (λ j. ends (street ss j) c) i
+
+module _ (ss : List Street) where
+  pub ends-none : (c : ℕ) → ends-below ss 0 c ≡ 0
+  unfolding sum-below
+  ends-none c = refl
+
+  pub ends-more : (i c : ℕ) → ends-below ss (i + 1) c ≡ ends-below ss i c + ends (street ss i) c
+  unfolding sum-below
+  ends-more i c = let e : i + 1 ≡ suc i = omega arith in omega (arith, ap (sum-below (λ j. ends (street ss j) c)) e)
+
+  pub ends-all : (c : ℕ) → ends-below ss (length ss) c ≡ ends-at ss c
+  unfolding weigh
+  ends-all c = sum-same (λ j. ends (street ss j) c) (λ j. 1 * ends (street ss j) c) (length ss) (λ i _. omega arith) ∙ weigh-ones ss (λ s. ends s c)
+
+  pub ends-upto : (i c : ℕ) → i < length ss → ends-below ss (i + 1) c ≤ ends-at ss c
+  ends-upto i c h = omega (arith, sum-upto (λ j. ends (street ss j) c) (i + 1) (length ss) (omega arith), ends-all c)
+
+  pub length-at-below : (i c : ℕ) → length (at-below ss i c) ≡ ends-below ss i c
+  unfolding at-below sum-below
+  length-at-below zero c = refl
+  length-at-below (suc i) c =
+      omega (arith, length-at-below i c, length-append (at-below ss i c) (replicate (ends (street ss i) c) i), length-replicate (ends (street ss i) c) i)
+
+  -- in the lists of its two corners there is room for street i
+  pub room-one : (i : ℕ) → i < length ss → length (at-below ss i (street ss i .one)) < ends-at ss (street ss i .one)
+  room-one i h = let c = street ss i .one in let a = length-at-below i c in let b = ends-more i c in let d = ends-upto i c h in grind (arith, tells)
+
+  pub room-other : (i : ℕ) → i < length ss → let s = street ss i in length (at-below ss i (s .other)) + mark (s .one) (s .other) < ends-at ss (s .other)
+  room-other i h = let c = street ss i .other in let a = length-at-below i c in let b = ends-more i c in let d = ends-upto i c h in grind (arith, tells)
+
+  pub before-none : ends-before ss 0 ≡ 0
+  unfolding sum-below
+  before-none = refl
+
+  pub before-more : (c : ℕ) → ends-before ss (suc c) ≡ ends-before ss c + ends-at ss c
+  unfolding sum-below
+  before-more c = omega arith
+
+  -- the ends at k are among those at the corners below c
+  pub before-upto : (k c : ℕ) → k < c → ends-before ss k + ends-at ss k ≤ ends-before ss c
+  before-upto k c h = omega (arith, before-more k, sum-upto (ends-at ss) (suc k) c h)
+
+  pub length-streets-at : (c : ℕ) → length (streets-at ss c) ≡ ends-at ss c
+  length-streets-at c = length-at-below (length ss) c ∙ ends-all c

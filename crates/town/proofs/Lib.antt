@@ -1,0 +1,8 @@
+pub mod Ends
+pub mod Layouts
+pub mod Summing
+pub mod Writes
+pub mod Placing
+pub mod Laws
+pub mod Changing
+pub mod Calling

@@ -1,0 +1,6 @@
+pub mod Corners
+pub mod Layout
+pub mod Town
+pub mod Writing
+pub mod Meaning
+pub mod Changes

@@ -1,0 +1,157 @@
+// Where memory has what. Every other module goes by these functions.
+ghost use mathlib.Core.Path.{_≡_};
+ghost use mathlib.Core.Bool.{cond};
+ghost use Prim.Native.Nat.{ℕ, suc, _+_, _-_, _*_, _≤_, _<_};
+ghost use lib.ListN.{length, set, take, drop};
+ghost use Rattle.std.specs.Options.{mapped};
+ghost use Rattle.std.specs.declared.option.Option.the-variants.{Some, None};
+ghost use Rattle.streets.specs.Streets.{street};
+ghost use Rattle.streets.specs.Meaning.{as-street};
+ghost use Rattle.town.specs.Corners.{streets-at};
+ghost use Rattle.town.specs.Layout.{limiting, word, limits-in, streets-in, count-in, street-in, street-from, starts-from, lists-from, words};
+ghost use Rattle.town.specs.Town.{Rows, Sound};
+ghost use Rattle.town.specs.Meaning.{as-limits};
+ghost use Rattle.town.specs.Changes.{in-range};
+use super::limit::Limits;
+use streets::Street;
+
+const CORNERS: usize = 0;
+
+const STREETS: usize = 1;
+
+const COUNT: usize = 2;
+
+const HEAD_WORDS: usize = 3;
+
+const STREET_WORDS: usize = 3;
+
+fn street_from(i: u16) -> usize
+    ensures { λ r. ⌜ r ≡ street-from i ⌝ }
+{
+    HEAD_WORDS + STREET_WORDS * i as usize
+}
+
+impl Limits {
+    pub fn new(corners: u32, streets: u32) -> Option<Limits>
+        ensures { λ r. ⌜ mapped as-limits r ≡ cond (in-range (limiting corners streets)) (Some (limiting corners streets)) None ⌝ }
+    {
+        if corners < 1 || corners > 256 || streets > 1024 {
+            return None;
+        }
+        Some(Limits {
+            corners: corners as u16,
+            streets: streets as u16,
+        })
+    }
+
+    pub fn starts_from(self) -> usize
+        ensures { λ r. ⌜ r ≡ starts-from (as-limits self) ⌝ }
+    {
+        street_from(self.streets)
+    }
+
+    pub fn lists_from(self) -> usize
+        ensures { λ r. ⌜ r ≡ lists-from (as-limits self) ⌝ }
+    {
+        self.starts_from() + self.corners as usize + 1
+    }
+
+    // How many words of memory a town with these limits asks for.
+    pub fn words(self) -> usize
+        ensures { λ r. ⌜ r ≡ words (as-limits self) ⌝ }
+    {
+        self.lists_from() + 2 * self.streets as usize
+    }
+}
+
+// The head of a town that has no streets.
+pub fn put_head(memory: &mut [u32], limits: Limits)
+    requires { ⌜ 3 ≤ length (now memory) ⌝ }
+    ensures { λ _. ⌜ now (memory .exit) ≡ set (set (set (now (memory .entry)) 0 (limits .corners)) 1 (limits .streets)) 2 0 ⌝ }
+{
+    memory[CORNERS] = limits.corners as u32;
+    memory[STREETS] = limits.streets as u32;
+    memory[COUNT] = 0;
+}
+
+pub fn limits(memory: &[u32]) -> Limits
+    requires { ⌜ Rows (limits-in (now memory)) (now memory) (streets-in (now memory)) ⌝ }
+    ensures { λ r. ⌜ as-limits r ≡ limits-in (now (memory .entry)) ⌝ }
+{
+    Limits {
+        corners: memory[CORNERS] as u16,
+        streets: memory[STREETS] as u16,
+    }
+}
+
+// Where the corners' numbers begin, behind the one before the first.
+pub fn numbers_from(memory: &[u32]) -> usize
+    requires { ⌜ Rows (limits-in (now memory)) (now memory) (streets-in (now memory)) ⌝ }
+    ensures { λ r. ⌜ r ≡ suc (starts-from (limits-in (now (memory .entry)))) ⌝ }
+{
+    limits(memory).starts_from() + 1
+}
+
+pub fn corners(memory: &[u32]) -> u16
+    requires { ⌜ Rows (limits-in (now memory)) (now memory) (streets-in (now memory)) ⌝ }
+    ensures { λ r. ⌜ r ≡ limits-in (now (memory .entry)) .corners ⌝ }
+{
+    limits(memory).corners
+}
+
+pub fn count(memory: &[u32]) -> u16
+    requires { ⌜ Rows (limits-in (now memory)) (now memory) (streets-in (now memory)) ⌝ }
+    ensures { λ r. ⌜ r ≡ length (streets-in (now (memory .entry))) ⌝ }
+{
+    memory[COUNT] as u16
+}
+
+pub fn street(memory: &[u32], i: u16) -> Street
+    requires rows { ⌜ Rows (limits-in (now memory)) (now memory) (streets-in (now memory)) ⌝ }
+    requires there { ⌜ i < length (streets-in (now memory)) ⌝ }
+    ensures { λ r. ⌜ as-street r ≡ street (streets-in (now (memory .entry))) i ⌝ }
+{
+    let at = street_from(i);
+    Street::new(memory[at] as u16, memory[at + 1] as u16, memory[at + 2])
+}
+
+// Where the list of a corner begins, and where it stops.
+pub fn list_at(memory: &[u32], c: u16) -> (usize, usize)
+    requires town { ⌜ Sound (now memory) ⌝ }
+    requires there { ⌜ c < limits-in (now memory) .corners ⌝ }
+    ensures forward { λ r. ⌜ r .0 ≤ r .1 ⌝ }
+    ensures within { λ r. ⌜ r .1 ≤ length (now (memory .entry)) ⌝ }
+    ensures list { λ r. ⌜ take (r .1 - r .0) (drop (r .0) (now (memory .entry))) ≡ streets-at (streets-in (now (memory .entry))) c ⌝ }
+{
+    let limits = limits(memory);
+    let at = limits.starts_from() + c as usize;
+    let lists = limits.lists_from();
+    (lists + memory[at] as usize, lists + memory[at + 1] as usize)
+}
+
+pub fn set_count(memory: &mut [u32], n: u16)
+    requires { ⌜ 3 ≤ length (now memory) ⌝ }
+    ensures { λ _. ⌜ now (memory .exit) ≡ set (now (memory .entry)) 2 n ⌝ }
+{
+    memory[COUNT] = n as u32;
+}
+
+pub fn put_street(memory: &mut [u32], i: u16, s: Street)
+    requires { ⌜ street-from i + 2 < length (now memory) ⌝ }
+    ensures { λ _. ⌜ now (memory .exit) ≡ set (set (set (now (memory .entry)) (street-from i) (s .one)) (street-from i + 1) (s .other)) (street-from i + 2) (s .long) ⌝ }
+{
+    let at = street_from(i);
+    memory[at] = s.one as u32;
+    memory[at + 1] = s.other as u32;
+    memory[at + 2] = s.long;
+}
+
+// The streets from i + 1 on, up to the n-th, each take the place of the one before.
+pub fn move_down(memory: &mut [u32], i: u16, n: u16)
+    requires there { ⌜ i < n ⌝ }
+    requires within { ⌜ street-from n ≤ length (now memory) ⌝ }
+    ensures moved { λ _. ⌜ ((p : ℕ) → street-from i ≤ p → p + 3 < street-from n → word (now (memory .exit)) p ≡ word (now (memory .entry)) (p + 3)) ⌝ }
+    ensures before { λ _. ⌜ ((p : ℕ) → p < street-from i → word (now (memory .exit)) p ≡ word (now (memory .entry)) p) ⌝ }
+{
+    memory.copy_within(street_from(i + 1)..street_from(n), street_from(i));
+}
