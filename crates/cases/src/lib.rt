@@ -3,3 +3,5 @@
 mod answers;
 #[cfg(test)]
 mod calls;
+#[cfg(test)]
+mod towns;

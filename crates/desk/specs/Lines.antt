@@ -1,16 +1,33 @@
--- The text of a call, and of a refusal.
+-- The reply to a call, and its text.
+use mathlib.Core.Path.{_≡_}
 use mathlib.Core.List.{List, _++_}
 use Prim.Native.Nat.{ℕ}
 use lib.Chars.{codes}
 use Rattle.std.specs.Written.{decimal}
-use Rattle.streets.specs.Calls.{Call, opens, closes, odd, round, garbled}
+use Rattle.std.specs.declared.result.Result.{Result}
+use Rattle.std.specs.declared.result.Result.the-variants.{Ok, Err}
+use Rattle.streets.specs.Calls.{Call, odd, round}
+use Rattle.town.specs.Meaning.{refusal-number, refusal-place, answered}
+use Rattle.town.specs.Changes.{Called}
+use Rattle.town.specs.declared.refusal.Refusal.{Refusal}
+use Rattle.desk.specs.declared.reply.Reply.{Reply}
+use Rattle.desk.specs.declared.reply.Reply.the-variants.{Changed, Odd, Round}
+
+-- a call that changes streets has its answer; the others have none yet and change nothing
+abbrev pub Replied : List ℕ → Call → Reply → List ℕ → Type 0
+Replied m c (Changed r) m′ = Called m c (answered r) m′
+Replied m c Odd m′ = (c ≡ odd) × (m′ ≡ m)
+Replied m c (Round k) m′ = (c ≡ round k) × (m′ ≡ m)
 
 abbrev pub refused-text : ℕ → ℕ → List ℕ
 refused-text k p = codes "refused " ++ (decimal k ++ (codes " at " ++ decimal p))
 
-abbrev pub call-text : Call → List ℕ
-call-text (opens a b n) = codes "open " ++ (decimal a ++ (codes " " ++ (decimal b ++ (codes " " ++ decimal n))))
-call-text (closes i) = codes "close " ++ decimal i
-call-text odd = codes "odd"
-call-text (round c) = codes "round " ++ decimal c
-call-text (garbled p) = refused-text 1 p
+abbrev pub changed-text : Result ℕ Refusal → List ℕ
+changed-text (Ok n) = decimal n
+changed-text (Err e) = refused-text (refusal-number e) (refusal-place e)
+
+-- a call without an answer is printed as it was read
+abbrev pub reply-text : Reply → List ℕ
+reply-text (Changed r) = changed-text r
+reply-text Odd = codes "odd"
+reply-text (Round k) = codes "round " ++ decimal k

@@ -1,36 +1,41 @@
-// The line that is printed for a row of bytes.
+// The line that is printed for a reply.
 ghost use mathlib.Core.Path.{_≡_};
 ghost use Rattle.std.specs.Of.String.{string-bytes};
 ghost use Rattle.std.specs.Vec.{made};
-ghost use Rattle.wire.specs.Format.{called};
-ghost use Rattle.wire.specs.Meaning.{as-call, read-as};
-ghost use Rattle.desk.specs.Lines.{call-text, refused-text};
+ghost use Rattle.town.specs.Meaning.{refusal-number, refusal-place};
+ghost use Rattle.desk.specs.Lines.{refused-text, changed-text, reply-text};
+use super::reply::Reply;
 use std::alloc::AllocError;
 use std::alloc::Global;
-use wire::Call;
+use town::Refusal;
 
-fn call_line(heap: Global, call: Call) -> Result<String, AllocError>
-    ensures { λ r. ⌜ made r (λ t. string-bytes t ≡ call-text (as-call call)) ⌝ }
-{
-    match call {
-        Call::Open { one, other, long } => format!(heap, "open {one} {other} {long}"),
-        Call::Close { street } => format!(heap, "close {street}"),
-        Call::Odd => format!(heap, "odd"),
-        Call::Round { from } => format!(heap, "round {from}"),
-    }
-}
-
-fn refused_line(heap: Global, number: u32, place: usize) -> Result<String, AllocError>
+pub fn refused_line(heap: Global, number: u32, place: usize) -> Result<String, AllocError>
     ensures { λ r. ⌜ made r (λ t. string-bytes t ≡ refused-text number place) ⌝ }
 {
     format!(heap, "refused {number} at {place}")
 }
 
-pub fn line(heap: Global, read: Result<Call, usize>) -> Result<String, AllocError>
-    ensures { λ r. ⌜ made r (λ t. string-bytes t ≡ call-text (called (read-as as-call read))) ⌝ }
+pub fn refusal_line(heap: Global, refusal: Refusal) -> Result<String, AllocError>
+    ensures { λ r. ⌜ made r (λ t. string-bytes t ≡ refused-text (refusal-number refusal) (refusal-place refusal)) ⌝ }
 {
-    match read {
-        Ok(call) => call_line(heap, call),
-        Err(place) => refused_line(heap, 1, place),
+    refused_line(heap, refusal.number(), refusal.place() as usize)
+}
+
+fn changed_line(heap: Global, changed: Result<u16, Refusal>) -> Result<String, AllocError>
+    ensures { λ r. ⌜ made r (λ t. string-bytes t ≡ changed-text changed) ⌝ }
+{
+    match changed {
+        Ok(n) => format!(heap, "{n}"),
+        Err(refusal) => refusal_line(heap, refusal),
+    }
+}
+
+pub fn line(heap: Global, reply: Reply) -> Result<String, AllocError>
+    ensures { λ r. ⌜ made r (λ t. string-bytes t ≡ reply-text reply) ⌝ }
+{
+    match reply {
+        Reply::Changed(changed) => changed_line(heap, changed),
+        Reply::Odd => format!(heap, "odd"),
+        Reply::Round { from } => format!(heap, "round {from}"),
     }
 }

@@ -1,14 +1,27 @@
-// Reads a file of calls and prints a line for each.
+// Reads a file of calls, answers them in turn, and prints a line for each.
+ghost use Rattle.town.specs.Town.{Sound};
+
 mod line;
+mod reply;
 
 use line::line;
+use line::refusal_line;
+use line::refused_line;
+use reply::answer;
 use std::env;
 use std::error::AnyError;
 use std::fs;
 use std::io;
 use std::io::Read;
+use town::Limits;
+use town::open_town;
 use wire::first_row;
 use wire::read_call;
+
+// The limits of the town.
+const CORNERS: u32 = 32;
+
+const STREETS: u32 = 64;
 
 // The calls in the file that is named, or on standard input where none is.
 fn input(rt: &LibcRuntime) -> Result<Vec<u8>, AnyError> {
@@ -28,25 +41,39 @@ fn input(rt: &LibcRuntime) -> Result<Vec<u8>, AnyError> {
 }
 
 // Stops at the first unreadable row: nothing says where the next one begins.
-fn print_lines(rt: &LibcRuntime, calls: &[u8]) -> io::Result<()> {
+fn print_lines(rt: &LibcRuntime, memory: &mut [u32], calls: &[u8]) -> io::Result<()>
+    requires { ⌜ Sound (now memory) ⌝ }
+{
     let mut rest = calls;
     while !rest.is_empty() {
         let row = first_row(rest);
-        let read = read_call(row);
-        let last = read.is_err();
-        rt.println(line(rt.alloc(), read)?)?;
-        if last {
-            break;
+        match read_call(row) {
+            Ok(call) => rt.println(line(rt.alloc(), answer(memory, call))?)?,
+            Err(place) => {
+                rt.println(refused_line(rt.alloc(), 1, place)?)?;
+                return Ok(());
+            }
         }
         rest = &rest[row.len()..];
     }
     Ok(())
 }
 
+fn serve(rt: &LibcRuntime, memory: &mut [u32], calls: &[u8]) -> Result<(), AnyError> {
+    if let Err(refusal) = open_town(memory, CORNERS, STREETS) {
+        return Err(refusal_line(rt.alloc(), refusal)?.into());
+    }
+    print_lines(rt, memory, calls)?;
+    Ok(())
+}
+
 fn run(rt: &LibcRuntime) -> Result<(), AnyError> {
     let calls = input(rt)?;
-    print_lines(rt, calls.as_slice())?;
-    Ok(())
+    let Some(limits) = Limits::new(CORNERS, STREETS) else {
+        return Err("no town has such limits".into());
+    };
+    let mut memory = vec![in rt.alloc(); 0u32; limits.words()]?;
+    serve(rt, memory.as_mut_slice(), calls.as_slice())
 }
 
 fn main(rt: LibcRuntime) -> Result<(), AnyError> {

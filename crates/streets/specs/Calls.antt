@@ -31,7 +31,7 @@ pub record Limits : Type 0 where
 abbrev pub most-odd : ℕ
 most-odd = 16
 
-unfoldable pub checks : Limits → List Street → Call → List Check
+abbrev pub checks : Limits → List Street → Call → List Check
 checks l ss (opens a b n) =
     asking 4 0 (ltb a (l .corners) && ltb b (l .corners)) ∷ asking 2 2 (leb 1 n && leb n 1000000)
     ∷ asking 5 0 (ltb (length ss) (l .streets))

@@ -44,7 +44,7 @@ module _ {State Call Answer : Type 0} (p : Protocol State Call Answer) where
   abbrev pub after : State → Call → State
   after s c = cond (eqb (turned s c) 0) (p .changed s c) s
 
-  unfoldable pub right-if : Bool → State → Call → Answer → Type 0
+  abbrev pub right-if : Bool → State → Call → Answer → Type 0
   right-if true s c a = p .may-say s c a
   right-if false s c a = a ≡ p .refused (turned s c) (first-place (p .checks s c))
 

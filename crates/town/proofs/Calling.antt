@@ -2,18 +2,19 @@
 use mathlib.Core.Path.{_≡_, refl, sym, ap, subst, _∙_}
 use mathlib.Core.Logic.{_⊎_}
 use mathlib.Core.Bool.{Bool, true, false, cond, _&&_}
-use mathlib.Core.List.{List, []}
+use mathlib.Core.List.{List, [], _∷_, _++_}
 use Prim.Native.Nat.{ℕ, _≤_, _<_}
 use native.Mathlib.Omega.{arith}
 use lib.Dec.{eqb, ltb, leb}
 use lib.ListN.{length, set}
 use Rattle.std.specs.declared.option.Option.the-variants.{Some, None}
+use Rattle.std.specs.shelf.Lists.{removed}
 use Rattle.std.proofs.shelf.Tests.{eq-eqb, ne-eqb, ltb-true, leb-true, le-leb, and-parts}
 use Rattle.std.proofs.shelf.Ways.{tells}
 use Rattle.std.specs.declared.result.Result.the-variants.{Ok}
 use Rattle.streets.specs.Streets.{Street, joining}
 use Rattle.streets.specs.Protocol.{first-number, first-place, right-if}
-use Rattle.streets.specs.Calls.{Limits, Call, opens, closes, Answer, refused, checks, changed, may-say, town}
+use Rattle.streets.specs.Calls.{Limits, Call, opens, closes, Answer, number, checks, changed, may-say, town}
 use Rattle.streets.specs.Promise.{Good-limits}
 use Rattle.town.specs.Layout.{limits-in, streets-in, words}
 use Rattle.town.specs.Town.{Proper, Rows, Town, Sound}
@@ -21,20 +22,7 @@ use Rattle.town.specs.Changes.{in-range, Opened, Called}
 use Rattle.town.proofs.Changing.{head-written}
 
 module _ (m : List ℕ) (c : Call) where
-  pub turned-away : (k p : ℕ) → Sound m → first-number (checks (limits-in m) (streets-in m) c) ≡ k → first-place (checks (limits-in m) (streets-in m) c) ≡ p → 0 < k → Called m c (refused k p) m
-  unfolding right-if
-  turned-away k p t e f some =
-      let l = limits-in m in
-      let ss = streets-in m in
-      let no : eqb (first-number (checks l ss c)) 0 ≡ false = ne-eqb _ 0 (λ z. omega arith) in
-      record {
-        says = subst (λ (b : Bool). right-if (town l) b ss c (refused k p)) (sym no) (ap (λ (x : ℕ). refused x p) (sym e) ∙ ap (refused (first-number (checks l ss c))) (sym f));
-        holds = subst (λ (b : Bool). Town l m (cond b (changed ss c) ss)) (sym no) t;
-        kept = λ _. refl;
-      }
-
   pub accepted : (a : Answer) (m′ : List ℕ) → first-number (checks (limits-in m) (streets-in m) c) ≡ 0 → may-say (limits-in m) (streets-in m) c a → Town (limits-in m) m′ (changed (streets-in m) c) → Called m c a m′
-  unfolding right-if
   accepted a m′ e may t =
       let l = limits-in m in
       let ss = streets-in m in
@@ -48,9 +36,6 @@ module _ (m : List ℕ) (c : Call) where
 -- what a check that hands on a value, or none, says of its test
 pub handed : {A : Type 0} (b : Bool) (x y : A) → Some x ≡ cond b (Some y) None → (b ≡ true) × (x ≡ y)
 handed b x y e = grind (arith, tells)
-
-pub refused-at : (b : Bool) (y : ℕ) → None ≡ cond b (Some y) None → b ≡ false
-refused-at b y e = grind (arith, tells)
 
 -- a town opened with the limits l, handed on by the first check as l₁ and by the second as l₂
 module _ (l l₁ l₂ : Limits) (m : List ℕ) (first : Some l₁ ≡ cond (in-range l) (Some l) None) (second : Some l₂ ≡ cond (leb (words l₁) (length m)) (Some l₁) None) (good : Good-limits l₂) where
@@ -73,45 +58,29 @@ module _ (l l₁ l₂ : Limits) (m : List ℕ) (first : Some l₁ ≡ cond (in-r
         kept = λ some. absurd (omega arith);
       }
 
--- the first check of a closing that fails
-pub street-missing : (l : Limits) (ss : List Street) (i : ℕ) → ltb i (length ss) ≡ false → (first-number (checks l ss (closes i)) ≡ 4) × (first-place (checks l ss (closes i)) ≡ 0)
-unfolding checks
-street-missing l ss i e = grind (arith, tells)
+-- a street opened, when each check has handed on its value
+module _ (m : List ℕ) (a b n a′ b′ n′ i : ℕ) (s : Street) (one : Some a′ ≡ cond (ltb a (limits-in m .corners)) (Some a) None) (other : Some b′ ≡ cond (ltb b (limits-in m .corners)) (Some b) None) (long : Some n′ ≡ cond (leb 1 n && leb n 1000000) (Some n) None) (next : Some i ≡ cond (ltb (length (streets-in m)) (limits-in m .streets)) (Some (length (streets-in m))) None) (is : s ≡ joining a′ b′ n′) where
+  asked : s ≡ joining a b n
+  asked = let e : joining a′ b′ n′ ≡ joining a b n = cc (handed _ _ _ one .1, handed _ _ _ other .1, handed _ _ _ long .1) in is ∙ e
 
-pub street-there : (l : Limits) (ss : List Street) (i : ℕ) → ltb i (length ss) ≡ true → first-number (checks l ss (closes i)) ≡ 0
-unfolding checks
-street-there l ss i e = grind (arith, tells)
+  pub can-add : (length (streets-in m) < limits-in m .streets) × Proper (limits-in m) s
+  can-add =
+      let lengths = and-parts _ _ (handed _ _ _ long .0) in
+      let p : Proper (limits-in m) (joining a b n) =
+      record { one-there = ltb-true _ _ (handed _ _ _ one .0); other-there = ltb-true _ _ (handed _ _ _ other .0); some-long = leb-true _ _ (lengths .0); not-too-long = leb-true _ _ (lengths .1) } in
+      (ltb-true _ _ (handed _ _ _ next .0), subst (Proper (limits-in m)) (sym asked) p)
 
--- a street that has passed the checks
-pub passed : (l : Limits) (a b n a′ b′ n′ : ℕ) (s : Street) → (ltb a (l .corners) ≡ true) × (a′ ≡ a) → (ltb b (l .corners) ≡ true) × (b′ ≡ b) → ((leb 1 n && leb n 1000000) ≡ true) × (n′ ≡ n) → s ≡ joining a′ b′ n′ → (s ≡ joining a b n) × Proper l s
-passed l a b n a′ b′ n′ s one other long is =
-    let asked : joining a′ b′ n′ ≡ joining a b n = cc (one .1, other .1, long .1) in
-    let p : Proper l (joining a b n) = record { one-there = ltb-true _ _ (one .0); other-there = ltb-true _ _ (other .0); some-long = leb-true _ _ (and-parts _ _ (long .0) .0); not-too-long = leb-true _ _ (and-parts _ _ (long .0) .1) } in
-    (is ∙ asked, subst (Proper l) (sym (is ∙ asked)) p)
+  pub street-opened : (m′ : List ℕ) → Town (limits-in m) m′ (streets-in m ++ s ∷ []) → Called m (opens a b n) (number i) m′
+  unfolding changed may-say
+  street-opened m′ t =
+      let met : first-number (checks (limits-in m) (streets-in m) (opens a b n)) ≡ 0 =
+      let u = handed _ _ _ one .0 in let v = handed _ _ _ other .0 in let w = handed _ _ _ long .0 in let x = handed _ _ _ next .0 in grind (arith, tells) in
+      accepted m (opens a b n) (number i) m′ met (ap number (handed _ _ _ next .1)) (subst (λ (x : Street). Town (limits-in m) m′ (streets-in m ++ x ∷ [])) asked t)
 
--- the first check of an opening that fails
-module _ (l : Limits) (ss : List Street) (a b n : ℕ) where
-  abbrev pub First : ℕ → ℕ → Type 0
-  First k p = (first-number (checks l ss (opens a b n)) ≡ k) × (first-place (checks l ss (opens a b n)) ≡ p)
-
-  pub one-missing : ltb a (l .corners) ≡ false → First 4 0
-  unfolding checks
-  one-missing e = grind (arith, tells)
-
-  pub other-missing : ltb b (l .corners) ≡ false → First 4 0
-  unfolding checks
-  other-missing e = grind (arith, tells)
-
-  module _ (one : ltb a (l .corners) ≡ true) (other : ltb b (l .corners) ≡ true) where
-    pub improper : (leb 1 n && leb n 1000000) ≡ false → First 2 2
-    unfolding checks
-    improper e = grind (arith, tells)
-
-    module _ (long : (leb 1 n && leb n 1000000) ≡ true) where
-      pub full : ltb (length ss) (l .streets) ≡ false → First 5 0
-      unfolding checks
-      full e = grind (arith, tells)
-
-      pub all-met : ltb (length ss) (l .streets) ≡ true → First 0 0
-      unfolding checks
-      all-met e = grind (arith, tells)
+-- a street closed
+pub street-closed : (m : List ℕ) (i i′ : ℕ) → Some i′ ≡ cond (ltb i (length (streets-in m))) (Some i) None → (m′ : List ℕ) → Town (limits-in m) m′ (removed (streets-in m) i′) → Called m (closes i) (number i′) m′
+unfolding changed may-say
+street-closed m i i′ there m′ t =
+    let h = handed _ _ _ there in
+    let met : first-number (checks (limits-in m) (streets-in m) (closes i)) ≡ 0 = let u = h .0 in grind (arith, tells) in
+    accepted m (closes i) (number i′) m′ met (ap number (h .1)) (subst (λ (x : ℕ). Town (limits-in m) m′ (removed (streets-in m) x)) (h .1) t)

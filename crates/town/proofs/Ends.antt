@@ -5,14 +5,18 @@ use mathlib.Core.Bool.{cond}
 use mathlib.Core.List.{List, []}
 use Prim.Native.Nat.{ℕ, zero, suc, _+_, _*_, _≤_, _<_}
 use native.Mathlib.Omega.{arith}
+use lib.Dec.{eqb, ltb}
 use lib.ListN.{length, replicate}
 use Rattle.std.proofs.shelf.Lists.{length-append, length-replicate}
-use Rattle.std.proofs.shelf.Tests.{cases-lt}
+use Rattle.std.specs.shelf.Lists.{countBy}
+use Rattle.std.proofs.shelf.Sums.{sumBy-cons, sumBy-append}
+use Rattle.std.proofs.shelf.Tests.{cases-lt, cases-eq}
 use Rattle.std.proofs.shelf.Ways.{tells}
 use Rattle.streets.specs.Streets.{Street, street, mark, ends, ends-at}
 use Rattle.streets.specs.Counts.{sum-below, weigh}
 use Rattle.streets.proofs.Sums.{sum-same, weigh-ones}
 use Rattle.town.specs.Corners.{at-below, streets-at, ends-before}
+use Rattle.town.specs.Laws.{Each-end}
 
 pub sum-upto : (f : ℕ → ℕ) (i n : ℕ) → i ≤ n → sum-below f i ≤ sum-below f n
 unfolding sum-below
@@ -70,3 +74,23 @@ module _ (ss : List Street) where
 
   pub length-streets-at : (c : ℕ) → length (streets-at ss c) ≡ ends-at ss c
   length-streets-at c = length-at-below (length ss) c ∙ ends-all c
+
+count-copies : (n j i : ℕ) → countBy (λ x. eqb x i) (replicate n j) ≡ n * mark j i
+count-copies zero j i = omega arith
+count-copies (suc n) j i = let r = count-copies n j i in omega (arith, sumBy-cons (λ (x : ℕ). mark x i) j (replicate n j))
+
+count-below : (ss : List Street) (c i n : ℕ) → countBy (λ x. eqb x i) (at-below ss n c) ≡ cond (ltb i n) (ends (street ss i) c) 0
+unfolding at-below
+count-below ss c i zero = grind (arith, tells)
+count-below ss c i (suc n) =
+    let s = street ss n in
+    let r = count-below ss c i n in
+    let a = sumBy-append (λ (x : ℕ). mark x i) (at-below ss n c) (replicate (ends s c) n) in
+    let b = count-copies (ends s c) n i in
+    elim (cases-eq n i) [
+      | inl e ↦ let d = ap (λ (x : ℕ). ends (street ss x) c) e in let k : mark n i ≡ 1 = grind (arith, tells) in let f = ap (λ (x : ℕ). ends s c * x) k in grind (arith, tells)
+      | inr e ↦ let k : mark n i ≡ 0 = grind (arith, tells) in let f = ap (λ (x : ℕ). ends s c * x) k in grind (arith, tells)
+    ]
+
+pub each-end : Each-end
+each-end ss c i = count-below ss c i (length ss)

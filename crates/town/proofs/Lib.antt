@@ -3,6 +3,6 @@ pub mod Layouts
 pub mod Summing
 pub mod Writes
 pub mod Placing
-pub mod Laws
+pub mod Holding
 pub mod Changing
 pub mod Calling

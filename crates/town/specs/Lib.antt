@@ -4,3 +4,4 @@ pub mod Town
 pub mod Writing
 pub mod Meaning
 pub mod Changes
+pub mod Laws

@@ -25,7 +25,11 @@ pub record Rows (l : Limits) (m : List ℕ) (ss : List Street) : Type 0 where
   pub few : length ss ≤ l .streets
   pub proper : (i : ℕ) → i < length ss → Proper l (street ss i)
 
--- so are its lists
+-- head and streets of m are those of some town
+abbrev pub Ready : List ℕ → Type 0
+Ready m = Rows (limits-in m) m (streets-in m)
+
+-- the lists of m are those of a town with the limits l and the streets ss
 pub record Lists (l : Limits) (m : List ℕ) (ss : List Street) : Type 0 where
   pub starts : (c : ℕ) → c ≤ l .corners → word m (starts-from l + c) ≡ ends-before ss c
   pub listed : (c : ℕ) → c < l .corners → take (ends-at ss c) (drop (lists-from l + ends-before ss c) m) ≡ streets-at ss c

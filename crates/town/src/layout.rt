@@ -8,13 +8,14 @@ ghost use Rattle.std.specs.declared.option.Option.the-variants.{Some, None};
 ghost use Rattle.streets.specs.Streets.{street};
 ghost use Rattle.streets.specs.Meaning.{as-street};
 ghost use Rattle.town.specs.Corners.{streets-at};
-ghost use Rattle.town.specs.Layout.{limiting, word, limits-in, streets-in, count-in, street-in, street-from, starts-from, lists-from, words};
-ghost use Rattle.town.specs.Town.{Rows, Sound};
+ghost use Rattle.town.specs.Layout.{limiting, word, street-words, limits-in, streets-in, street-from, starts-from, lists-from, words, budget};
+ghost use Rattle.town.specs.Town.{Ready, Sound};
 ghost use Rattle.town.specs.Meaning.{as-limits};
 ghost use Rattle.town.specs.Changes.{in-range};
 use super::limit::Limits;
 use streets::Street;
 
+// The head: the limits, and the number of streets.
 const CORNERS: usize = 0;
 
 const STREETS: usize = 1;
@@ -23,7 +24,14 @@ const COUNT: usize = 2;
 
 const HEAD_WORDS: usize = 3;
 
+// A street: its ends, and its length.
 const STREET_WORDS: usize = 3;
+
+// A corner: where its list begins.
+const CORNER_WORDS: usize = 1;
+
+// An end of a street, in the list of its corner.
+const END_WORDS: usize = 1;
 
 fn street_from(i: u16) -> usize
     ensures { λ r. ⌜ r ≡ street-from i ⌝ }
@@ -44,23 +52,24 @@ impl Limits {
         })
     }
 
-    pub fn starts_from(self) -> usize
+    pub(crate) fn starts_from(self) -> usize
         ensures { λ r. ⌜ r ≡ starts-from (as-limits self) ⌝ }
     {
         street_from(self.streets)
     }
 
-    pub fn lists_from(self) -> usize
+    pub(crate) fn lists_from(self) -> usize
         ensures { λ r. ⌜ r ≡ lists-from (as-limits self) ⌝ }
     {
-        self.starts_from() + self.corners as usize + 1
+        self.starts_from() + CORNER_WORDS * self.corners as usize + 1
     }
 
     // How many words of memory a town with these limits asks for.
     pub fn words(self) -> usize
-        ensures { λ r. ⌜ r ≡ words (as-limits self) ⌝ }
+        ensures is { λ r. ⌜ r ≡ words (as-limits self) ⌝ }
+        ensures within { λ r. ⌜ 4 * r ≤ budget (as-limits self) ⌝ }
     {
-        self.lists_from() + 2 * self.streets as usize
+        self.lists_from() + 2 * END_WORDS * self.streets as usize
     }
 }
 
@@ -75,7 +84,7 @@ pub fn put_head(memory: &mut [u32], limits: Limits)
 }
 
 pub fn limits(memory: &[u32]) -> Limits
-    requires { ⌜ Rows (limits-in (now memory)) (now memory) (streets-in (now memory)) ⌝ }
+    requires { ⌜ Ready (now memory) ⌝ }
     ensures { λ r. ⌜ as-limits r ≡ limits-in (now (memory .entry)) ⌝ }
 {
     Limits {
@@ -86,28 +95,28 @@ pub fn limits(memory: &[u32]) -> Limits
 
 // Where the corners' numbers begin, behind the one before the first.
 pub fn numbers_from(memory: &[u32]) -> usize
-    requires { ⌜ Rows (limits-in (now memory)) (now memory) (streets-in (now memory)) ⌝ }
+    requires { ⌜ Ready (now memory) ⌝ }
     ensures { λ r. ⌜ r ≡ suc (starts-from (limits-in (now (memory .entry)))) ⌝ }
 {
     limits(memory).starts_from() + 1
 }
 
 pub fn corners(memory: &[u32]) -> u16
-    requires { ⌜ Rows (limits-in (now memory)) (now memory) (streets-in (now memory)) ⌝ }
+    requires { ⌜ Ready (now memory) ⌝ }
     ensures { λ r. ⌜ r ≡ limits-in (now (memory .entry)) .corners ⌝ }
 {
     limits(memory).corners
 }
 
 pub fn count(memory: &[u32]) -> u16
-    requires { ⌜ Rows (limits-in (now memory)) (now memory) (streets-in (now memory)) ⌝ }
+    requires { ⌜ Ready (now memory) ⌝ }
     ensures { λ r. ⌜ r ≡ length (streets-in (now (memory .entry))) ⌝ }
 {
     memory[COUNT] as u16
 }
 
 pub fn street(memory: &[u32], i: u16) -> Street
-    requires rows { ⌜ Rows (limits-in (now memory)) (now memory) (streets-in (now memory)) ⌝ }
+    requires rows { ⌜ Ready (now memory) ⌝ }
     requires there { ⌜ i < length (streets-in (now memory)) ⌝ }
     ensures { λ r. ⌜ as-street r ≡ street (streets-in (now (memory .entry))) i ⌝ }
 {
@@ -150,7 +159,7 @@ pub fn put_street(memory: &mut [u32], i: u16, s: Street)
 pub fn move_down(memory: &mut [u32], i: u16, n: u16)
     requires there { ⌜ i < n ⌝ }
     requires within { ⌜ street-from n ≤ length (now memory) ⌝ }
-    ensures moved { λ _. ⌜ ((p : ℕ) → street-from i ≤ p → p + 3 < street-from n → word (now (memory .exit)) p ≡ word (now (memory .entry)) (p + 3)) ⌝ }
+    ensures moved { λ _. ⌜ ((p : ℕ) → street-from i ≤ p → p + street-words < street-from n → word (now (memory .exit)) p ≡ word (now (memory .entry)) (p + street-words)) ⌝ }
     ensures before { λ _. ⌜ ((p : ℕ) → p < street-from i → word (now (memory .exit)) p ≡ word (now (memory .entry)) p) ⌝ }
 {
     memory.copy_within(street_from(i + 1)..street_from(n), street_from(i));

@@ -1,5 +1,6 @@
 // Streets and corners in memory that the caller lends. Only this crate knows the layout.
 mod changes;
+pub mod laws;
 mod layout;
 mod limit;
 mod lists;

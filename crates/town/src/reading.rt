@@ -47,7 +47,7 @@ pub fn street(memory: &[u32], i: u32) -> Street
     requires { ⌜ Sound (now memory) ⌝ }
     ensures { λ r. ⌜ as-street r ≡ street (streets-in (now (memory .entry))) i ⌝ }
 {
-    if i >= layout::count(memory) as u32 {
+    if i >= count(memory) as u32 {
         return Street::new(0, 0, 0);
     }
     layout::street(memory, i as u16)

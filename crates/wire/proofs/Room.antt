@@ -48,7 +48,6 @@ said-legs l ss (round c) (number n) h = absurd h
 said-legs l ss (garbled p) a h = absurd h
 
 right-legs : (b : Bool) (l : Limits) (ss : List Street) (c : Call) (a : Answer) → right-if (town l) b ss c a → legs-of a ≤ 2 * length ss
-unfolding right-if
 right-legs true l ss c a h = said-legs l ss c a h
 right-legs false l ss c a h = rw h (omega arith)
 

@@ -2,7 +2,7 @@ use mathlib.Core.Path.{_≡_, ap, _∙_}
 use Prim.Native.Nat.{_+_}
 use native.Mathlib.Omega.{arith}
 use Rattle.town.specs.Layout.{limits-in, starts-from, lists-from}
-use Rattle.town.proofs.Laws.{list-fits, list-read}
+use Rattle.town.proofs.Holding.{list-fits, list-read}
 use Rattle.town.proofs.layout.list_at.Needs as need
 
 pub returns : need.returns

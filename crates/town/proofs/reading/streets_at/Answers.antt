@@ -2,7 +2,7 @@ use mathlib.Core.Path.{sym}
 use Prim.Native.Nat.{_≤_}
 use native.Mathlib.Omega.{arith}
 use Rattle.town.specs.Layout.{limits-in}
-use Rattle.town.proofs.Laws.{none-there}
+use Rattle.town.proofs.Holding.{none-there}
 use Rattle.town.proofs.reading.streets_at.Needs as need
 
 pub returns-then-c-corners : need.returns-then-c-corners

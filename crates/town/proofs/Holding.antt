@@ -12,6 +12,7 @@ use Rattle.streets.proofs.Degrees.{none-past}
 use Rattle.town.specs.Corners.{streets-at, ends-before}
 use Rattle.town.specs.Layout.{word, starts-from, lists-from}
 use Rattle.town.specs.Town.{Town, Sound}
+use Rattle.town.specs.Laws.{One-town}
 use Rattle.town.proofs.Ends.{before-more, length-streets-at}
 use Rattle.town.proofs.Layouts.{as-read, few-ends, ends-in-town}
 
@@ -39,3 +40,6 @@ module _ (l : Limits) (m : List ℕ) (ss : List Street) (t : Town l m ss) where
         let n : lists + word m (at + 1) - (lists + word m at) ≡ ends-at ss c = omega (arith, start, stop) in
         let p : lists + word m at ≡ lists-from l + ends-before ss c = omega (arith, start) in
         ap (λ (x : ℕ). take x (drop (lists + word m at) m)) n ∙ ap (λ (x : ℕ). take (ends-at ss c) (drop x m)) p ∙ t .lists .listed c there
+
+pub one-town : One-town
+one-town l l′ m ss ss′ t u = (sym (t .rows .limits) ∙ u .rows .limits, sym (t .rows .streets) ∙ u .rows .streets)

@@ -1,0 +1,20 @@
+-- The laws of a town in memory.
+use mathlib.Core.Path.{_≡_}
+use mathlib.Core.Bool.{cond}
+use mathlib.Core.List.{List}
+use Prim.Native.Nat.{ℕ}
+use lib.Dec.{ltb, eqb}
+use lib.ListN.{length}
+use Rattle.std.specs.shelf.Lists.{countBy}
+use Rattle.streets.specs.Streets.{Street, street, ends}
+use Rattle.streets.specs.Calls.{Limits}
+use Rattle.town.specs.Corners.{streets-at}
+use Rattle.town.specs.Town.{Town}
+
+-- the list of a corner has every street as often as it has ends there, and nothing else
+abbrev pub Each-end : Type 0
+Each-end = (ss : List Street) (c i : ℕ) → countBy (λ j. eqb j i) (streets-at ss c) ≡ cond (ltb i (length ss)) (ends (street ss i) c) 0
+
+-- no memory holds two towns
+abbrev pub One-town : Type 0
+One-town = (l l′ : Limits) (m : List ℕ) (ss ss′ : List Street) → Town l m ss → Town l′ m ss′ → (l ≡ l′) × (ss ≡ ss′)

@@ -1,0 +1,10 @@
+// The laws of a town in memory, each owed by a function.
+ghost use Rattle.town.specs.Laws.{Each-end, One-town};
+
+pub fn each_end()
+    ensures { λ _. ⌜ Each-end ⌝ }
+{}
+
+pub fn one_town()
+    ensures { λ _. ⌜ One-town ⌝ }
+{}
