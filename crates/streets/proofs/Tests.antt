@@ -40,11 +40,6 @@ positive-at [] h i l = absurd (omega arith)
 positive-at (s ∷ ss) h zero l = ltb-true 0 (s .long) (and-parts (ltb 0 (s .long)) (positive ss) h .0)
 positive-at (s ∷ ss) h (suc i) l = positive-at ss (and-parts (ltb 0 (s .long)) (positive ss) h .1) i (omega arith)
 
-pub positive-from : (ss : List Street) → ((i : ℕ) → i < length ss → 0 < street ss i .long) → positive ss ≡ true
-unfolding positive
-positive-from [] h = refl
-positive-from (s ∷ ss) h = and-from (ltb 0 (s .long)) (positive ss) (lt-ltb 0 (s .long) (h 0 (omega arith))) (positive-from ss (λ i l. h (suc i) (omega arith)))
-
 pub in-town-from : (n : ℕ) (ss : List Street) → ((i : ℕ) → i < length ss → (street ss i .one < n) × (street ss i .other < n)) → in-town n ss ≡ true
 unfolding in-town
 in-town-from n [] h = refl

@@ -1,7 +1,6 @@
 -- Calls refused and accepted.
-use mathlib.Core.Path.{_≡_, refl, sym, ap, subst, _∙_}
-use mathlib.Core.Logic.{_⊎_}
-use mathlib.Core.Bool.{Bool, true, false, cond, _&&_}
+use mathlib.Core.Path.{_≡_, sym, ap, subst, _∙_}
+use mathlib.Core.Bool.{Bool, true, cond, _&&_}
 use mathlib.Core.List.{List, [], _∷_, _++_}
 use Prim.Native.Nat.{ℕ, _≤_, _<_}
 use native.Mathlib.Omega.{arith}
@@ -9,15 +8,15 @@ use lib.Dec.{eqb, ltb, leb}
 use lib.ListN.{length, set}
 use Rattle.std.specs.declared.option.Option.the-variants.{Some, None}
 use Rattle.std.specs.shelf.Lists.{removed}
-use Rattle.std.proofs.shelf.Tests.{eq-eqb, ne-eqb, ltb-true, leb-true, le-leb, and-parts}
+use Rattle.std.proofs.shelf.Tests.{eq-eqb, ltb-true, leb-true, le-leb, and-parts}
 use Rattle.std.proofs.shelf.Ways.{tells}
 use Rattle.std.specs.declared.result.Result.the-variants.{Ok}
 use Rattle.streets.specs.Streets.{Street, joining}
-use Rattle.streets.specs.Protocol.{first-number, first-place, right-if}
+use Rattle.streets.specs.Protocol.{first-number, right-if}
 use Rattle.streets.specs.Calls.{Limits, Call, opens, closes, Answer, number, checks, changed, may-say, town}
 use Rattle.streets.specs.Promise.{Good-limits}
 use Rattle.town.specs.Layout.{limits-in, streets-in, words}
-use Rattle.town.specs.Town.{Proper, Rows, Town, Sound}
+use Rattle.town.specs.Town.{Proper, Rows, Town}
 use Rattle.town.specs.Changes.{in-range, Opened, Called}
 use Rattle.town.proofs.Changing.{head-written}
 

@@ -1,10 +1,10 @@
 -- Head and streets of memory after a change of the streets.
-use mathlib.Core.Path.{_≡_, refl, sym, ap, subst, _∙_}
+use mathlib.Core.Path.{_≡_, sym, ap, subst, _∙_}
 use mathlib.Core.Logic.{inl, inr}
 use mathlib.Core.List.{List, [], _∷_, _++_}
-use Prim.Native.Nat.{ℕ, suc, _+_, _-_, _≤_, _<_}
+use Prim.Native.Nat.{ℕ, _+_, _-_, _≤_, _<_}
 use native.Mathlib.Omega.{arith}
-use lib.ListN.{length, set, take, drop}
+use lib.ListN.{length, set}
 use Rattle.std.proofs.shelf.Lists.{length-set, getD-set-same, getD-set-other, length-push, getD-push, getD-append-left}
 use Rattle.std.specs.shelf.Lists.{removed}
 use Rattle.std.proofs.shelf.Edits.{length-removed, getD-removed-below, getD-removed-above}
@@ -14,7 +14,7 @@ use Rattle.streets.specs.Calls.{Limits}
 use Rattle.streets.specs.Promise.{Good-limits}
 use Rattle.town.specs.Layout.{word, street-from, street-in, words}
 use Rattle.town.specs.Town.{Proper, Rows}
-use Rattle.town.proofs.Layouts.{rows-from, street-is, street-moved, street-read, limit-words, count-word}
+use Rattle.town.proofs.Layouts.{rows-from, street-is, street-moved, street-read, limit-words}
 
 -- the words of a street written from p on, and then the number of streets
 abbrev pub written : List ℕ → ℕ → Street → ℕ → List ℕ

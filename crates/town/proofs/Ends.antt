@@ -47,7 +47,7 @@ module _ (ss : List Street) where
   pub ends-upto : (i c : ℕ) → i < length ss → ends-below ss (i + 1) c ≤ ends-at ss c
   ends-upto i c h = omega (arith, sum-upto (λ j. ends (street ss j) c) (i + 1) (length ss) (omega arith), ends-all c)
 
-  pub length-at-below : (i c : ℕ) → length (at-below ss i c) ≡ ends-below ss i c
+  length-at-below : (i c : ℕ) → length (at-below ss i c) ≡ ends-below ss i c
   unfolding at-below sum-below
   length-at-below zero c = refl
   length-at-below (suc i) c =

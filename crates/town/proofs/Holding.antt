@@ -1,6 +1,5 @@
 -- What a town in memory promises of its streets and lists.
-use mathlib.Core.Path.{_≡_, refl, sym, ap, subst, _∙_}
-use mathlib.Core.Bool.{true}
+use mathlib.Core.Path.{_≡_, sym, ap, _∙_}
 use mathlib.Core.List.{List, []}
 use Prim.Native.Nat.{ℕ, suc, _+_, _-_, _≤_, _<_}
 use native.Mathlib.Omega.{arith}
@@ -11,15 +10,12 @@ use Rattle.streets.specs.Calls.{Limits}
 use Rattle.streets.proofs.Degrees.{none-past}
 use Rattle.town.specs.Corners.{streets-at, ends-before}
 use Rattle.town.specs.Layout.{word, starts-from, lists-from}
-use Rattle.town.specs.Town.{Town, Sound}
+use Rattle.town.specs.Town.{Town}
 use Rattle.town.specs.Laws.{One-town}
 use Rattle.town.proofs.Ends.{before-more, length-streets-at}
-use Rattle.town.proofs.Layouts.{as-read, few-ends, ends-in-town}
+use Rattle.town.proofs.Layouts.{few-ends, ends-in-town}
 
 module _ (l : Limits) (m : List ℕ) (ss : List Street) (t : Town l m ss) where
-  pub sound : Sound m
-  sound = as-read l m ss (t .rows) (λ x y. Town x m y) t
-
   -- past the last corner there are no streets
   pub none-there : (c : ℕ) → l .corners ≤ c → streets-at ss c ≡ []
   none-there c h = nil-from-length (streets-at ss c) (length-streets-at ss c ∙ none-past ss (l .corners) c (ends-in-town l m ss (t .rows)) h)

@@ -76,7 +76,7 @@ module _ (l : Limits) (m : List ℕ) (ss : List Street) (r : Rows l m ss) where
       omega (arith, ap (λ (s : Street). s .one) w, ap (λ (s : Street). s .other) w, p .one-there, p .other-there, r .good .few-corners)
 
   -- what holds of l and ss holds of what memory is read as
-  pub as-read : (P : Limits → List Street → Type 0) → P l ss → P (limits-in m) (streets-in m)
+  as-read : (P : Limits → List Street → Type 0) → P l ss → P (limits-in m) (streets-in m)
   as-read P p = subst (λ (x : Limits). P x (streets-in m)) (sym (r .limits)) (subst (P l) (sym (r .streets)) p)
 
   -- and the other way round, for a memory that its lists were written to
@@ -85,9 +85,6 @@ module _ (l : Limits) (m : List ℕ) (ss : List Street) (r : Rows l m ss) where
 
   pub rows-read : Rows (limits-in m) m (streets-in m)
   rows-read = as-read (λ x y. Rows x m y) r
-
-  pub length-read : (i : ℕ) → i < length ss → i < length (streets-in m)
-  length-read i h = omega (arith, ap length (r .streets))
 
   pub same-read : (s : Street) (i : ℕ) → s ≡ street (streets-in m) i → s ≡ street ss i
   same-read s i e = e ∙ ap (λ (x : List Street). street x i) (r .streets)

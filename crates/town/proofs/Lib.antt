@@ -2,6 +2,7 @@ pub mod Ends
 pub mod Layouts
 pub mod Summing
 pub mod Writes
+pub mod Numbering
 pub mod Placing
 pub mod Holding
 pub mod Changing

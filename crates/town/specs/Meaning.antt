@@ -1,7 +1,5 @@
 -- What the code's structs and enums stand for.
-use mathlib.Core.Bool.{Bool, _&&_}
 use Prim.Native.Nat.{ℕ}
-use lib.Dec.{leb}
 use Rattle.std.specs.declared.result.Result.{Result}
 use Rattle.std.specs.declared.result.Result.the-variants.{Ok, Err}
 use Rattle.streets.specs.Calls.{Limits, Answer, number, refused}
