@@ -5,7 +5,7 @@ use mathlib.Core.List.{List, [], _∷_, _++_}
 use Prim.Native.Nat.{ℕ, _≤_, _<_}
 use native.Mathlib.Omega.{arith}
 use lib.Dec.{eqb, ltb, leb}
-use lib.ListN.{length, set}
+use lib.ListN.{length}
 use Rattle.std.specs.declared.option.Option.the-variants.{Some, None}
 use Rattle.std.specs.shelf.Lists.{removed}
 use Rattle.std.proofs.shelf.Tests.{eq-eqb, ltb-true, leb-true, le-leb, and-parts}
@@ -14,11 +14,9 @@ use Rattle.std.specs.declared.result.Result.the-variants.{Ok}
 use Rattle.streets.specs.Streets.{Street, joining}
 use Rattle.streets.specs.Protocol.{first-number, right-if}
 use Rattle.streets.specs.Calls.{Limits, Call, opens, closes, Answer, number, checks, changed, may-say, town}
-use Rattle.streets.specs.Promise.{Good-limits}
 use Rattle.town.specs.Layout.{limits-in, streets-in, words}
-use Rattle.town.specs.Town.{Proper, Rows, Town}
+use Rattle.town.specs.Town.{Proper, Town}
 use Rattle.town.specs.Changes.{in-range, Opened, Called}
-use Rattle.town.proofs.Changing.{head-written}
 
 module _ (m : List ℕ) (c : Call) where
   pub accepted : (a : Answer) (m′ : List ℕ) → first-number (checks (limits-in m) (streets-in m) c) ≡ 0 → may-say (limits-in m) (streets-in m) c a → Town (limits-in m) m′ (changed (streets-in m) c) → Called m c a m′
@@ -37,12 +35,9 @@ pub handed : {A : Type 0} (b : Bool) (x y : A) → Some x ≡ cond b (Some y) No
 handed b x y e = grind (arith, tells)
 
 -- a town opened with the limits l, handed on by the first check as l₁ and by the second as l₂
-module _ (l l₁ l₂ : Limits) (m : List ℕ) (first : Some l₁ ≡ cond (in-range l) (Some l) None) (second : Some l₂ ≡ cond (leb (words l₁) (length m)) (Some l₁) None) (good : Good-limits l₂) where
+module _ (l l₁ l₂ : Limits) (m : List ℕ) (first : Some l₁ ≡ cond (in-range l) (Some l) None) (second : Some l₂ ≡ cond (leb (words l₁) (length m)) (Some l₁) None) where
   room : words l₂ ≤ length m
   room = let h = handed _ _ _ second in omega (arith, leb-true _ _ (h .0), ap words (h .1))
-
-  pub head-rows : (m₁ : List ℕ) → m₁ ≡ set (set (set m 0 (l₂ .corners)) 1 (l₂ .streets)) 2 0 → Rows l₂ m₁ []
-  head-rows m₁ e = subst (λ (x : List ℕ). Rows l₂ x []) (sym e) (head-written l₂ m good room)
 
   pub town-opened : {A : Type 0} (x : A) (m₂ : List ℕ) → Town l₂ m₂ [] → Opened l m (Ok x) m₂
   town-opened x m₂ t =

@@ -75,16 +75,9 @@ module _ (l : Limits) (m : List ℕ) (ss : List Street) (r : Rows l m ss) where
       let p = r .proper i h in
       omega (arith, ap (λ (s : Street). s .one) w, ap (λ (s : Street). s .other) w, p .one-there, p .other-there, r .good .few-corners)
 
-  -- what holds of l and ss holds of what memory is read as
-  as-read : (P : Limits → List Street → Type 0) → P l ss → P (limits-in m) (streets-in m)
-  as-read P p = subst (λ (x : Limits). P x (streets-in m)) (sym (r .limits)) (subst (P l) (sym (r .streets)) p)
-
-  -- and the other way round, for a memory that its lists were written to
+  -- the town in a memory that the lists were written to
   pub relisted : (m′ : List ℕ) → Town (limits-in m) m′ (streets-in m) → Town l m′ ss
   relisted m′ t = subst (λ (x : Limits). Town x m′ ss) (r .limits) (subst (Town (limits-in m) m′) (r .streets) t)
-
-  pub rows-read : Rows (limits-in m) m (streets-in m)
-  rows-read = as-read (λ x y. Rows x m y) r
 
   pub same-read : (s : Street) (i : ℕ) → s ≡ street (streets-in m) i → s ≡ street ss i
   same-read s i e = e ∙ ap (λ (x : List Street). street x i) (r .streets)

@@ -11,7 +11,7 @@ ghost use Rattle.std.specs.shelf.Lists.{removed};
 ghost use Rattle.streets.specs.Calls.{opens, closes};
 ghost use Rattle.streets.specs.Meaning.{as-street};
 ghost use Rattle.town.specs.Layout.{limiting, limits-in, streets-in, words};
-ghost use Rattle.town.specs.Town.{Proper, Town, Sound};
+ghost use Rattle.town.specs.Town.{Proper, Rows, Sound};
 ghost use Rattle.town.specs.Meaning.{as-limits, answered};
 ghost use Rattle.town.specs.Changes.{Opened, Called};
 use super::layout::count;
@@ -76,29 +76,27 @@ fn next(memory: &[u32]) -> Option<u16>
     }
 }
 
-// One street more.
+// One street more, not yet in its corners' lists.
 fn add(memory: &mut [u32], s: Street)
     requires town { ⌜ Sound (now memory) ⌝ }
     requires free { ⌜ length (streets-in (now memory)) < limits-in (now memory) .streets ⌝ }
     requires fit { ⌜ Proper (limits-in (now memory)) (as-street s) ⌝ }
-    ensures { λ _. ⌜ Town (limits-in (now (memory .entry))) (now (memory .exit)) (streets-in (now (memory .entry)) ++ as-street s ∷ []) ⌝ }
+    ensures { λ _. ⌜ Rows (limits-in (now (memory .entry))) (now (memory .exit)) (streets-in (now (memory .entry)) ++ as-street s ∷ []) ⌝ }
 {
     let n = count(memory);
     put_street(memory, n, s);
     set_count(memory, n + 1);
-    write_lists(memory);
 }
 
-// The i-th street goes, and those after it have each one number less.
+// The i-th street goes, and those after it have each one number less, but for the corners' lists.
 fn remove(memory: &mut [u32], i: u16)
     requires town { ⌜ Sound (now memory) ⌝ }
     requires there { ⌜ i < length (streets-in (now memory)) ⌝ }
-    ensures { λ _. ⌜ Town (limits-in (now (memory .entry))) (now (memory .exit)) (removed (streets-in (now (memory .entry))) i) ⌝ }
+    ensures { λ _. ⌜ Rows (limits-in (now (memory .entry))) (now (memory .exit)) (removed (streets-in (now (memory .entry))) i) ⌝ }
 {
     let n = count(memory);
     move_down(memory, i, n);
     set_count(memory, n - 1);
-    write_lists(memory);
 }
 
 // Opens a street; its number.
@@ -119,6 +117,7 @@ pub fn open_street(memory: &mut [u32], one: u32, other: u32, long: u32) -> Resul
         return Err(Refusal::Full);
     };
     add(memory, Street::new(one, other, long));
+    write_lists(memory);
     Ok(i)
 }
 
@@ -143,5 +142,6 @@ pub fn close_street(memory: &mut [u32], i: u32) -> Result<u16, Refusal>
         return Err(Refusal::NotThere);
     };
     remove(memory, i);
+    write_lists(memory);
     Ok(i)
 }

@@ -1,6 +1,7 @@
 // Where memory has what. Every other module goes by these functions.
 ghost use mathlib.Core.Path.{_≡_};
 ghost use mathlib.Core.Bool.{cond};
+ghost use mathlib.Core.List.{[]};
 ghost use Prim.Native.Nat.{ℕ, suc, _+_, _-_, _*_, _≤_, _<_};
 ghost use lib.ListN.{length, set, take, drop};
 ghost use Rattle.std.specs.Options.{mapped};
@@ -9,7 +10,7 @@ ghost use Rattle.streets.specs.Streets.{street};
 ghost use Rattle.streets.specs.Meaning.{as-street};
 ghost use Rattle.town.specs.Corners.{streets-at};
 ghost use Rattle.town.specs.Layout.{limiting, word, street-words, limits-in, streets-in, street-from, starts-from, lists-from, words, budget};
-ghost use Rattle.town.specs.Town.{Ready, Sound};
+ghost use Rattle.town.specs.Town.{Rows, Ready, Sound};
 ghost use Rattle.town.specs.Meaning.{as-limits};
 ghost use Rattle.town.specs.Changes.{in-range};
 use super::limit::Limits;
@@ -75,8 +76,8 @@ impl Limits {
 
 // The head of a town that has no streets.
 pub fn put_head(memory: &mut [u32], limits: Limits)
-    requires { ⌜ 3 ≤ length (now memory) ⌝ }
-    ensures { λ _. ⌜ now (memory .exit) ≡ set (set (set (now (memory .entry)) 0 (limits .corners)) 1 (limits .streets)) 2 0 ⌝ }
+    requires { ⌜ words (as-limits limits) ≤ length (now memory) ⌝ }
+    ensures { λ _. ⌜ Rows (as-limits limits) (now (memory .exit)) [] ⌝ }
 {
     memory[CORNERS] = limits.corners as u32;
     memory[STREETS] = limits.streets as u32;

@@ -1,3 +1,4 @@
+use Rattle.town.proofs.Layouts.{relisted}
 use Rattle.town.proofs.Calling.{can-add, street-opened}
 use Rattle.town.proofs.changes.open_street.Needs as need
 
@@ -7,4 +8,6 @@ add-requires c κs =
     record { town = c .pre; free = can .0; fit = can .1 }
 
 pub returns : need.returns
-returns c = street-opened _ _ _ _ _ _ _ _ _ (c .in-Some .ensures tt) (c .in-Some-corner .ensures tt) (c .in-Some-proper .ensures tt) (c .in-Some-next .ensures tt) (c .new .ensures) _ (c .add .ensures)
+returns c =
+    let town = relisted _ _ _ (c .add .ensures) _ (c .write-lists .ensures) in
+    street-opened _ _ _ _ _ _ _ _ _ (c .in-Some .ensures tt) (c .in-Some-corner .ensures tt) (c .in-Some-proper .ensures tt) (c .in-Some-next .ensures tt) (c .new .ensures) _ town
