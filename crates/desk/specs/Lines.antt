@@ -1,23 +1,31 @@
 -- The reply to a call, and its text.
 use mathlib.Core.Path.{_≡_}
+use mathlib.Core.Bool.{Bool, true, false}
 use mathlib.Core.List.{List, _++_}
 use Prim.Native.Nat.{ℕ}
 use lib.Chars.{codes}
 use Rattle.std.specs.Written.{decimal}
 use Rattle.std.specs.declared.result.Result.{Result}
 use Rattle.std.specs.declared.result.Result.the-variants.{Ok, Err}
-use Rattle.streets.specs.Calls.{Call, odd, round}
+use Rattle.streets.specs.Calls.{Call, odd, round, garbled}
 use Rattle.town.specs.Meaning.{refusal-number, refusal-place, answered}
 use Rattle.town.specs.Changes.{Called}
 use Rattle.town.specs.declared.refusal.Refusal.{Refusal}
 use Rattle.desk.specs.declared.reply.Reply.{Reply}
-use Rattle.desk.specs.declared.reply.Reply.the-variants.{Changed, Odd, Round}
+use Rattle.desk.specs.declared.reply.Reply.the-variants.{Changed, Odd, Round, Unreadable}
 
 -- a call that changes streets has its answer; the others have none yet and change nothing
 abbrev pub Replied : List ℕ → Call → Reply → List ℕ → Type 0
 Replied m c (Changed r) m′ = Called m c (answered r) m′
 Replied m c Odd m′ = (c ≡ odd) × (m′ ≡ m)
 Replied m c (Round k) m′ = (c ≡ round k) × (m′ ≡ m)
+Replied m c (Unreadable p) m′ = (c ≡ garbled p) × (m′ ≡ m)
+
+abbrev pub unreadable : Reply → Bool
+unreadable (Changed r) = false
+unreadable Odd = false
+unreadable (Round k) = false
+unreadable (Unreadable p) = true
 
 abbrev pub refused-text : ℕ → ℕ → List ℕ
 refused-text k p = codes "refused " ++ (decimal k ++ (codes " at " ++ decimal p))
@@ -31,3 +39,4 @@ abbrev pub reply-text : Reply → List ℕ
 reply-text (Changed r) = changed-text r
 reply-text Odd = codes "odd"
 reply-text (Round k) = codes "round " ++ decimal k
+reply-text (Unreadable p) = refused-text 1 p

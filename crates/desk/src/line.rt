@@ -9,7 +9,7 @@ use std::alloc::AllocError;
 use std::alloc::Global;
 use town::Refusal;
 
-pub fn refused_line(heap: Global, number: u32, place: usize) -> Result<String, AllocError>
+fn refused_line(heap: Global, number: u32, place: usize) -> Result<String, AllocError>
     ensures { λ r. ⌜ made r (λ t. string-bytes t ≡ refused-text number place) ⌝ }
 {
     format!(heap, "refused {number} at {place}")
@@ -37,5 +37,6 @@ pub fn line(heap: Global, reply: Reply) -> Result<String, AllocError>
         Reply::Changed(changed) => changed_line(heap, changed),
         Reply::Odd => format!(heap, "odd"),
         Reply::Round { from } => format!(heap, "round {from}"),
+        Reply::Unreadable { place } => refused_line(heap, 1, place),
     }
 }

@@ -6,8 +6,7 @@ mod reply;
 
 use line::line;
 use line::refusal_line;
-use line::refused_line;
-use reply::answer;
+use reply::answer_row;
 use std::env;
 use std::error::AnyError;
 use std::fs;
@@ -16,7 +15,6 @@ use std::io::Read;
 use town::Limits;
 use town::open_town;
 use wire::first_row;
-use wire::read_call;
 
 // The limits of the town.
 const CORNERS: u32 = 32;
@@ -47,14 +45,13 @@ fn print_lines(rt: &LibcRuntime, memory: &mut [u32], calls: &[u8]) -> io::Result
     let mut rest = calls;
     while !rest.is_empty() {
         let row = first_row(rest);
-        match read_call(row) {
-            Ok(call) => rt.println(line(rt.alloc(), answer(memory, call))?)?,
-            Err(place) => {
-                rt.println(refused_line(rt.alloc(), 1, place)?)?;
-                return Ok(());
-            }
-        }
         rest = &rest[row.len()..];
+        let reply = answer_row(memory, row);
+        let last = reply.is_unreadable();
+        rt.println(line(rt.alloc(), reply)?)?;
+        if last {
+            break;
+        }
     }
     Ok(())
 }

@@ -27,13 +27,23 @@ pub record Limits : Type 0 where
   pub corners : ℕ
   pub streets : ℕ
 
+abbrev pub most-corners : ℕ
+most-corners = 256
+
+abbrev pub most-streets : ℕ
+most-streets = 1024
+
+-- the length of the longest street that can be opened
+abbrev pub longest : ℕ
+longest = 1000000
+
 -- with more odd corners than this, the round need not be a shortest one
 abbrev pub most-odd : ℕ
 most-odd = 16
 
 abbrev pub checks : Limits → List Street → Call → List Check
 checks l ss (opens a b n) =
-    asking 4 0 (ltb a (l .corners) && ltb b (l .corners)) ∷ asking 2 2 (leb 1 n && leb n 1000000)
+    asking 4 0 (ltb a (l .corners) && ltb b (l .corners)) ∷ asking 2 2 (leb 1 n && leb n longest)
     ∷ asking 5 0 (ltb (length ss) (l .streets))
     ∷ []
 checks l ss (closes i) = asking 4 0 (ltb i (length ss)) ∷ []

@@ -5,7 +5,7 @@ use mathlib.Core.List.{List, [], _∷_, _++_}
 use Prim.Native.Nat.{ℕ, _≤_, _<_}
 use lib.Dec.{ltb}
 use Rattle.streets.specs.Protocol.{Desk, turned, ran, all-right, left-by}
-use Rattle.streets.specs.Calls.{Call, opens, closes, odd, round, garbled, Answer, Limits, town}
+use Rattle.streets.specs.Calls.{Call, opens, closes, odd, round, garbled, Answer, Limits, most-corners, most-streets, town}
 
 -- every number of the call fits a field of four bytes
 abbrev pub field : ℕ → Bool
@@ -24,8 +24,8 @@ all-readable (c ∷ cs) = readable c && all-readable cs
 
 pub record Good-limits (l : Limits) : Type 0 where
   pub some-corner : 0 < l .corners
-  pub few-corners : l .corners ≤ 256
-  pub few-streets : l .streets ≤ 1024
+  pub few-corners : l .corners ≤ most-corners
+  pub few-streets : l .streets ≤ most-streets
 
 module _ {Memory : Type 0} where
   -- the main promise: no sequence of calls gets a wrong answer, judged by the streets then open

@@ -13,10 +13,11 @@ use Rattle.std.proofs.shelf.Ways.{tells}
 use Rattle.std.specs.declared.result.Result.the-variants.{Ok}
 use Rattle.streets.specs.Streets.{Street, joining}
 use Rattle.streets.specs.Protocol.{first-number, right-if}
-use Rattle.streets.specs.Calls.{Limits, Call, opens, closes, Answer, number, checks, changed, may-say, town}
+use Rattle.streets.specs.Calls.{Limits, longest, Call, opens, closes, odd, round, garbled, Answer, number, checks, changed, may-say, town}
 use Rattle.town.specs.Layout.{limits-in, streets-in, words}
 use Rattle.town.specs.Town.{Proper, Town}
 use Rattle.town.specs.Changes.{in-range, Opened, Called}
+use Rattle.town.specs.Laws.{Memory-suffices}
 
 module _ (m : List ℕ) (c : Call) where
   pub accepted : (a : Answer) (m′ : List ℕ) → first-number (checks (limits-in m) (streets-in m) c) ≡ 0 → may-say (limits-in m) (streets-in m) c a → Town (limits-in m) m′ (changed (streets-in m) c) → Called m c a m′
@@ -53,7 +54,7 @@ module _ (l l₁ l₂ : Limits) (m : List ℕ) (first : Some l₁ ≡ cond (in-r
       }
 
 -- a street opened, when each check has handed on its value
-module _ (m : List ℕ) (a b n a′ b′ n′ i : ℕ) (s : Street) (one : Some a′ ≡ cond (ltb a (limits-in m .corners)) (Some a) None) (other : Some b′ ≡ cond (ltb b (limits-in m .corners)) (Some b) None) (long : Some n′ ≡ cond (leb 1 n && leb n 1000000) (Some n) None) (next : Some i ≡ cond (ltb (length (streets-in m)) (limits-in m .streets)) (Some (length (streets-in m))) None) (is : s ≡ joining a′ b′ n′) where
+module _ (m : List ℕ) (a b n a′ b′ n′ i : ℕ) (s : Street) (one : Some a′ ≡ cond (ltb a (limits-in m .corners)) (Some a) None) (other : Some b′ ≡ cond (ltb b (limits-in m .corners)) (Some b) None) (long : Some n′ ≡ cond (leb 1 n && leb n longest) (Some n) None) (next : Some i ≡ cond (ltb (length (streets-in m)) (limits-in m .streets)) (Some (length (streets-in m))) None) (is : s ≡ joining a′ b′ n′) where
   asked : s ≡ joining a b n
   asked = let e : joining a′ b′ n′ ≡ joining a b n = cc (handed _ _ _ one .1, handed _ _ _ other .1, handed _ _ _ long .1) in is ∙ e
 
@@ -78,3 +79,10 @@ street-closed m i i′ there m′ t =
     let h = handed _ _ _ there in
     let met : first-number (checks (limits-in m) (streets-in m) (closes i)) ≡ 0 = let u = h .0 in grind (arith, tells) in
     accepted m (closes i) (number i′) m′ met (ap number (h .1)) (subst (λ (x : ℕ). Town (limits-in m) m′ (removed (streets-in m) x)) (h .1) t)
+
+pub memory-suffices : Memory-suffices
+memory-suffices l ss (opens a b n) e = grind (arith, tells)
+memory-suffices l ss (closes i) e = grind (arith, tells)
+memory-suffices l ss odd e = omega arith
+memory-suffices l ss (round c) e = grind (arith, tells)
+memory-suffices l ss (garbled p) e = omega arith

@@ -12,9 +12,9 @@ use Rattle.std.proofs.shelf.Tests.{cases-lt}
 use Rattle.streets.specs.Streets.{Street, joining, street}
 use Rattle.streets.specs.Calls.{Limits}
 use Rattle.streets.specs.Promise.{Good-limits}
-use Rattle.town.specs.Layout.{word, street-from, street-in, words}
-use Rattle.town.specs.Town.{Proper, Rows}
-use Rattle.town.proofs.Layouts.{rows-from, street-is, street-moved, street-read, limit-words}
+use Rattle.town.specs.Layout.{street-words, word, street-from, street-in, words}
+use Rattle.town.specs.Town.{Proper, Front}
+use Rattle.town.proofs.Layouts.{front-from, street-is, street-moved, street-read, limit-words}
 
 -- the words of a street written from p on, and then the number of streets
 abbrev pub written : List ℕ → ℕ → Street → ℕ → List ℕ
@@ -56,20 +56,20 @@ module _ (m : List ℕ) (p : ℕ) (s : Street) (n : ℕ) (there : p + 2 < length
       getD-set-other three 2 k n 0 not-count ∙ getD-set-other two (p + 2) k (s .long) 0 (λ e. omega arith) ∙ getD-set-other one (p + 1) k (s .other) 0 (λ e. omega arith) ∙ getD-set-other m p k (s .one) 0 (λ e. omega arith)
 
 -- a town without streets
-pub head-written : (l : Limits) (m : List ℕ) → Good-limits l → words l ≤ length m → Rows l (set (set (set m 0 (l .corners)) 1 (l .streets)) 2 0) []
+pub head-written : (l : Limits) (m : List ℕ) → Good-limits l → words l ≤ length m → Front l (set (set (set m 0 (l .corners)) 1 (l .streets)) 2 0) []
 head-written l m good room =
     let one = set m 0 (l .corners) in
     let two = set one 1 (l .streets) in
     let a = length-set m 0 (l .corners) in
     let b = length-set one 1 (l .streets) in
-    rows-from l (set two 2 0) [] good (omega (arith, a, b, length-set two 2 0)) (
+    front-from l (set two 2 0) [] good (omega (arith, a, b, length-set two 2 0)) (
       getD-set-other two 2 0 0 0 (λ e. omega arith) ∙ getD-set-other one 1 0 (l .streets) 0 (λ e. omega arith) ∙ getD-set-same m 0 (l .corners) 0 (omega arith),
       getD-set-other two 2 1 0 0 (λ e. omega arith) ∙ getD-set-same one 1 (l .streets) 0 (omega (arith, a)),
       getD-set-same two 2 0 0 (omega (arith, a, b)),
     )
     (λ i h. absurd (omega arith)) (omega arith) (λ i h. absurd (omega arith))
 
-module _ (l : Limits) (m : List ℕ) (ss : List Street) (r : Rows l m ss) where
+module _ (l : Limits) (m : List ℕ) (ss : List Street) (r : Front l m ss) where
   -- a street more, at the end
   module _ (s : Street) (i : ℕ) (last : i ≡ length ss) (free : length ss < l .streets) (proper : Proper l s) where
     there : street-from i + 2 < length m
@@ -101,27 +101,27 @@ module _ (l : Limits) (m : List ℕ) (ss : List Street) (r : Rows l m ss) where
     unfolding m′
     new-street = let w = written-street m (street-from i) s (i + 1) there (omega arith) in street-is m′ i s (w .0) (w .1) (w .2)
 
-    street-added : Rows l (written m (street-from i) s (i + 1)) (ss ++ s ∷ [])
+    street-added : Front l (written m (street-from i) s (i + 1)) (ss ++ s ∷ [])
     unfolding m′
     street-added =
         let ws = limit-words l m ss r in
         let more = length-push ss s in
-        rows-from l m′ (ss ++ s ∷ []) (r .good) (omega (arith, r .room, lengths m (street-from i) s (i + 1) there (omega arith) .3))
+        front-from l m′ (ss ++ s ∷ []) (r .good) (omega (arith, r .room, lengths m (street-from i) s (i + 1) there (omega arith) .3))
         (else 0 (omega arith) (λ e. omega arith) ∙ ws .0, else 1 (omega arith) (λ e. omega arith) ∙ ws .1, written-count m (street-from i) s (i + 1) there (omega arith) ∙ omega arith)
         (of-all (λ k x. street-in m′ k ≡ x) same-street new-street) (omega arith) (of-all (λ _ x. Proper l x) (r .proper) proper)
 
-    pub rows-added : (m₁ m₂ : List ℕ) → m₁ ≡ set (set (set m (street-from i) (s .one)) (street-from i + 1) (s .other)) (street-from i + 2) (s .long) → m₂ ≡ set m₁ 2 (i + 1) → Rows l m₂ (ss ++ s ∷ [])
-    rows-added m₁ m₂ put counted = subst (λ (x : List ℕ). Rows l x (ss ++ s ∷ [])) (sym (counted ∙ ap (λ (x : List ℕ). set x 2 (i + 1)) put)) street-added
+    pub front-added : (m₁ m₂ : List ℕ) → m₁ ≡ set (set (set m (street-from i) (s .one)) (street-from i + 1) (s .other)) (street-from i + 2) (s .long) → m₂ ≡ set m₁ 2 (i + 1) → Front l m₂ (ss ++ s ∷ [])
+    front-added m₁ m₂ put counted = subst (λ (x : List ℕ). Front l x (ss ++ s ∷ [])) (sym (counted ∙ ap (λ (x : List ℕ). set x 2 (i + 1)) put)) street-added
 
   -- street i taken out: those behind it are moved, those before it stay
-  module _ (i n : ℕ) (m₁ m₂ : List ℕ) (there : i < length ss) (all : n ≡ length ss) (long : length m₁ ≡ length m) (moved : (p : ℕ) → street-from i ≤ p → p + 3 < street-from n → word m₁ p ≡ word m (p + 3)) (before : (p : ℕ) → p < street-from i → word m₁ p ≡ word m p) (counted : m₂ ≡ set m₁ 2 (n - 1)) where
+  module _ (i n : ℕ) (m₁ m₂ : List ℕ) (there : i < length ss) (all : n ≡ length ss) (long : length m₁ ≡ length m) (moved : (p : ℕ) → street-from i ≤ p → p + street-words < street-from n → word m₁ p ≡ word m (p + street-words)) (before : (p : ℕ) → p < street-from i → word m₁ p ≡ word m p) (counted : m₂ ≡ set m₁ 2 (n - 1)) where
     word₂ : (p : ℕ) → (p ≡ 2 → ⊥) → word m₂ p ≡ word m₁ p
     word₂ p other = ap (λ (x : List ℕ). word x p) counted ∙ getD-set-other m₁ 2 p (n - 1) 0 other
 
     stays : (p : ℕ) → p < street-from i → (p ≡ 2 → ⊥) → word m₂ p ≡ word m p
     stays p h other = word₂ p other ∙ before p h
 
-    moves : (p q : ℕ) → q ≡ p + 3 → street-from i ≤ p → q < street-from n → word m₂ p ≡ word m q
+    moves : (p q : ℕ) → q ≡ p + street-words → street-from i ≤ p → q < street-from n → word m₂ p ≡ word m q
     moves p q e from to = word₂ p (λ z. omega arith) ∙ moved p from (omega arith) ∙ ap (word m) (sym e)
 
     each-left : (k : ℕ) → k < length (removed ss i) → (street-in m₂ k ≡ street (removed ss i) k) × Proper l (street (removed ss i) k)
@@ -140,10 +140,10 @@ module _ (l : Limits) (m : List ℕ) (ss : List Street) (r : Rows l m ss) where
               (same ∙ street-read l m ss r (k + 1) (omega arith) ∙ sym is, subst (Proper l) (sym is) (r .proper (k + 1) (omega arith)))
         ]
 
-    pub rows-removed : Rows l m₂ (removed ss i)
-    rows-removed =
+    pub front-removed : Front l m₂ (removed ss i)
+    front-removed =
         let ws = limit-words l m ss r in
         let fewer = length-removed ss i there in
         let size : length m₂ ≡ length m = ap length counted ∙ length-set m₁ 2 (n - 1) ∙ long in
         let left : word m₂ 2 ≡ n - 1 = ap (λ (x : List ℕ). word x 2) counted ∙ getD-set-same m₁ 2 (n - 1) 0 (omega (arith, r .room)) in
-        rows-from l m₂ (removed ss i) (r .good) (omega (arith, r .room)) (stays 0 (omega arith) (λ e. omega arith) ∙ ws .0, stays 1 (omega arith) (λ e. omega arith) ∙ ws .1, omega arith) (λ k h. each-left k h .0) (omega (arith, r .few)) (λ k h. each-left k h .1)
+        front-from l m₂ (removed ss i) (r .good) (omega (arith, r .room)) (stays 0 (omega arith) (λ e. omega arith) ∙ ws .0, stays 1 (omega arith) (λ e. omega arith) ∙ ws .1, omega arith) (λ k h. each-left k h .0) (omega (arith, r .few)) (λ k h. each-left k h .1)

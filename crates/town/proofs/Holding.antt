@@ -18,7 +18,7 @@ use Rattle.town.proofs.Layouts.{few-ends, ends-in-town}
 module _ (l : Limits) (m : List ℕ) (ss : List Street) (t : Town l m ss) where
   -- past the last corner there are no streets
   pub none-there : (c : ℕ) → l .corners ≤ c → streets-at ss c ≡ []
-  none-there c h = nil-from-length (streets-at ss c) (length-streets-at ss c ∙ none-past ss (l .corners) c (ends-in-town l m ss (t .rows)) h)
+  none-there c h = nil-from-length (streets-at ss c) (length-streets-at ss c ∙ none-past ss (l .corners) c (ends-in-town l m ss (t .front)) h)
 
   -- a corner's list by where it begins and where the next one does
   module _ (c at lists : ℕ) (there : c < l .corners) (here : at ≡ starts-from l + c) (behind : lists ≡ lists-from l) where
@@ -29,7 +29,7 @@ module _ (l : Limits) (m : List ℕ) (ss : List Street) (t : Town l m ss) where
     stop = let e : at + 1 ≡ starts-from l + suc c = omega arith in ap (word m) e ∙ t .lists .starts (suc c) there ∙ before-more ss c
 
     pub list-fits : (lists + word m at ≤ lists + word m (at + 1)) × (lists + word m (at + 1) ≤ length m)
-    list-fits = omega (arith, start, stop, few-ends l m ss (t .rows) c there, t .rows .room)
+    list-fits = omega (arith, start, stop, few-ends l m ss (t .front) c there, t .front .room)
 
     pub list-read : take (lists + word m (at + 1) - (lists + word m at)) (drop (lists + word m at) m) ≡ streets-at ss c
     list-read =
@@ -38,4 +38,4 @@ module _ (l : Limits) (m : List ℕ) (ss : List Street) (t : Town l m ss) where
         ap (λ (x : ℕ). take x (drop (lists + word m at) m)) n ∙ ap (λ (x : ℕ). take (ends-at ss c) (drop x m)) p ∙ t .lists .listed c there
 
 pub one-town : One-town
-one-town l l′ m ss ss′ t u = (sym (t .rows .limits) ∙ u .rows .limits, sym (t .rows .streets) ∙ u .rows .streets)
+one-town l l′ m ss ss′ t u = (sym (t .front .limits) ∙ u .front .limits, sym (t .front .streets) ∙ u .front .streets)

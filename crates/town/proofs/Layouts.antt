@@ -15,13 +15,13 @@ use Rattle.streets.proofs.Degrees.{two-ends}
 use Rattle.town.specs.Corners.{ends-before}
 use Rattle.town.proofs.Ends.{before-upto}
 use Rattle.streets.specs.Calls.{Limits}
-use Rattle.town.specs.Layout.{limiting, word, limits-in, count-in, street-from, street-in, streets-in, words}
-use Rattle.town.specs.Town.{Proper, Rows, Town}
+use Rattle.town.specs.Layout.{corners-at, limit-at, count-at, limiting, word, limits-in, count-in, street-from, street-in, streets-in, words}
+use Rattle.town.specs.Town.{Proper, Front, Town}
 
 -- the same the other way round: what the words have to be
-limits-read : (l : Limits) (m : List ℕ) → word m 0 ≡ l .corners → word m 1 ≡ l .streets → limits-in m ≡ l
+limits-read : (l : Limits) (m : List ℕ) → word m corners-at ≡ l .corners → word m limit-at ≡ l .streets → limits-in m ≡ l
 unfolding limits-in
-limits-read l m e f = ap (λ (x : ℕ). limiting x (word m 1)) e ∙ ap (limiting (l .corners)) f
+limits-read l m e f = ap (λ (x : ℕ). limiting x (word m limit-at)) e ∙ ap (limiting (l .corners)) f
 
 pub street-is : (m : List ℕ) (i : ℕ) (s : Street) → word m (street-from i) ≡ s .one → word m (street-from i + 1) ≡ s .other → word m (street-from i + 2) ≡ s .long → street-in m i ≡ s
 unfolding street-in
@@ -34,34 +34,34 @@ pub street-moved : (m m′ : List ℕ) (i j : ℕ) → let p = street-from i in 
 unfolding street-in
 street-moved m m′ i j e = street-is m′ i (street-in m j) (e .0) (e .1) (e .2)
 
-streets-read : (m : List ℕ) (ss : List Street) → word m 2 ≡ length ss → ((i : ℕ) → i < length ss → street-in m i ≡ street ss i) → streets-in m ≡ ss
+streets-read : (m : List ℕ) (ss : List Street) → word m count-at ≡ length ss → ((i : ℕ) → i < length ss → street-in m i ≡ street ss i) → streets-in m ≡ ss
 unfolding streets-in count-in
 streets-read m ss n each =
     ap (λ (x : ℕ). map (street-in m) (counting 0 x)) n ∙ sym (fill-by-all (street-in m) ss (length ss) (joining 0 0 0) refl (λ k h. sym (each k h)))
 
-pub rows-from : (l : Limits) (m : List ℕ) (ss : List Street) → Good-limits l → words l ≤ length m → (word m 0 ≡ l .corners) × (word m 1 ≡ l .streets) × (word m 2 ≡ length ss) → ((i : ℕ) → i < length ss → street-in m i ≡ street ss i) → length ss ≤ l .streets → ((i : ℕ) → i < length ss → Proper l (street ss i)) → Rows l m ss
-rows-from l m ss good room head each few proper =
+pub front-from : (l : Limits) (m : List ℕ) (ss : List Street) → Good-limits l → words l ≤ length m → (word m corners-at ≡ l .corners) × (word m limit-at ≡ l .streets) × (word m count-at ≡ length ss) → ((i : ℕ) → i < length ss → street-in m i ≡ street ss i) → length ss ≤ l .streets → ((i : ℕ) → i < length ss → Proper l (street ss i)) → Front l m ss
+front-from l m ss good room head each few proper =
     record { good = good; room = room; limits = limits-read l m (head .0) (head .1); streets = streets-read m ss (head .2) each; few = few; proper = proper }
 
-module _ (l : Limits) (m : List ℕ) (ss : List Street) (r : Rows l m ss) where
-  pub limit-words : (word m 0 ≡ l .corners) × (word m 1 ≡ l .streets)
+module _ (l : Limits) (m : List ℕ) (ss : List Street) (r : Front l m ss) where
+  pub limit-words : (word m corners-at ≡ l .corners) × (word m limit-at ≡ l .streets)
   unfolding limits-in
   limit-words = (ap (λ (x : Limits). x .corners) (r .limits), ap (λ (x : Limits). x .streets) (r .limits))
 
-  pub limit-short : (word m 0 < 65536) × (word m 1 < 65536)
+  pub limit-short : (word m corners-at < 65536) × (word m limit-at < 65536)
   limit-short = omega (arith, limit-words .0, limit-words .1, r .good .few-corners, r .good .few-streets)
 
-  pub count-word : word m 2 ≡ length ss
+  pub count-word : word m count-at ≡ length ss
   unfolding streets-in count-in
-  count-word = sym (length-map-counting (street-in m) 0 (word m 2)) ∙ ap length (r .streets)
+  count-word = sym (length-map-counting (street-in m) 0 (word m count-at)) ∙ ap length (r .streets)
 
-  pub count-short : word m 2 < 65536
+  pub count-short : word m count-at < 65536
   count-short = omega (arith, count-word, r .few, r .good .few-streets)
 
   pub street-read : (i : ℕ) → i < length ss → street-in m i ≡ street ss i
   unfolding streets-in count-in
   street-read i h =
-      let e = getD-map-counting (street-in m) 0 (word m 2) i i (joining 0 0 0) (omega (arith, count-word)) (omega arith) in
+      let e = getD-map-counting (street-in m) 0 (word m count-at) i i (joining 0 0 0) (omega (arith, count-word)) (omega arith) in
       sym e ∙ ap (λ (x : List Street). street x i) (r .streets)
 
   -- the same by its words, from `at` on

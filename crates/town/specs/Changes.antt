@@ -8,14 +8,14 @@ use lib.ListN.{length}
 use Rattle.std.specs.declared.result.Result.{Result}
 use Rattle.std.specs.declared.result.Result.the-variants.{Ok, Err}
 use Rattle.streets.specs.Protocol.{Check, asking, first-number, first-place, turned, after, right}
-use Rattle.streets.specs.Calls.{Limits, Call, Answer, town}
+use Rattle.streets.specs.Calls.{Limits, most-corners, most-streets, Call, Answer, town}
 use Rattle.town.specs.Layout.{limits-in, streets-in, words}
 use Rattle.town.specs.Town.{Town}
 use Rattle.town.specs.Meaning.{refusal-number, refusal-place}
 use Rattle.town.specs.declared.refusal.Refusal.{Refusal as Refusal-enum}
 
 abbrev pub in-range : Limits → Bool
-in-range l = leb 1 (l .corners) && (leb (l .corners) 256 && leb (l .streets) 1024)
+in-range l = leb 1 (l .corners) && (leb (l .corners) most-corners && leb (l .streets) most-streets)
 
 -- the checks of opening a town in n words of memory
 abbrev pub opening : Limits → ℕ → List Check
@@ -30,7 +30,7 @@ abbrev pub told-place : {A : Type 0} → Result A Refusal-enum → ℕ
 told-place (Ok _) = 0
 told-place (Err e) = refusal-place e
 
--- a town is opened by the first check that fails, or with no streets
+-- opening is refused by the first check that fails, and memory is as it was; else memory holds the town without streets
 pub record Opened {A : Type 0} (l : Limits) (m : List ℕ) (r : Result A Refusal-enum) (m′ : List ℕ) : Type 0 where
   pub number : told-number r ≡ first-number (opening l (length m))
   pub place : told-place r ≡ first-place (opening l (length m))

@@ -7,7 +7,8 @@ use lib.Dec.{ltb, eqb}
 use lib.ListN.{length}
 use Rattle.std.specs.shelf.Lists.{countBy}
 use Rattle.streets.specs.Streets.{Street, street, ends}
-use Rattle.streets.specs.Calls.{Limits}
+use Rattle.streets.specs.Protocol.{first-number}
+use Rattle.streets.specs.Calls.{Limits, Call, checks}
 use Rattle.town.specs.Corners.{streets-at}
 use Rattle.town.specs.Town.{Town}
 
@@ -18,3 +19,7 @@ Each-end = (ss : List Street) (c i : ℕ) → countBy (λ j. eqb j i) (streets-a
 -- no memory holds two towns
 abbrev pub One-town : Type 0
 One-town = (l l′ : Limits) (m : List ℕ) (ss ss′ : List Street) → Town l m ss → Town l′ m ss′ → (l ≡ l′) × (ss ≡ ss′)
+
+-- no call is refused by 3, for want of memory: that is asked for when the town is opened
+abbrev pub Memory-suffices : Type 0
+Memory-suffices = (l : Limits) (ss : List Street) (c : Call) → first-number (checks l ss c) ≡ 3 → ⊥

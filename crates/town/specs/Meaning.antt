@@ -13,15 +13,15 @@ as-limits l = record { corners = l .corners; streets = l .streets }
 abbrev pub refusal-number : Refusal-enum → ℕ
 refusal-number case.NotThere = 4
 refusal-number case.Length = 2
-refusal-number case.Limits = 3
-refusal-number case.Memory = 3
+refusal-number case.OutOfRange = 3
+refusal-number case.TooLittle = 3
 refusal-number case.Full = 5
 
 abbrev pub refusal-place : Refusal-enum → ℕ
 refusal-place case.NotThere = 0
 refusal-place case.Length = 2
-refusal-place case.Limits = 0
-refusal-place case.Memory = 1
+refusal-place case.OutOfRange = 0
+refusal-place case.TooLittle = 1
 refusal-place case.Full = 0
 
 -- the answer to a call that is answered with a number

@@ -4,7 +4,7 @@ use mathlib.Core.List.{List}
 use Prim.Native.Nat.{ℕ, _+_, _≤_, _<_}
 use lib.ListN.{length, take, drop}
 use Rattle.streets.specs.Streets.{Street, street, ends-at}
-use Rattle.streets.specs.Calls.{Limits}
+use Rattle.streets.specs.Calls.{Limits, longest}
 use Rattle.streets.specs.Promise.{Good-limits}
 use Rattle.town.specs.Corners.{streets-at, ends-before}
 use Rattle.town.specs.Layout.{word, limits-in, streets-in, starts-from, lists-from, words}
@@ -14,10 +14,10 @@ pub record Proper (l : Limits) (s : Street) : Type 0 where
   pub one-there : s .one < l .corners
   pub other-there : s .other < l .corners
   pub some-long : 1 ≤ s .long
-  pub not-too-long : s .long ≤ 1000000
+  pub not-too-long : s .long ≤ longest
 
 -- head and streets of the memory m are those of a town with the limits l and the streets ss
-pub record Rows (l : Limits) (m : List ℕ) (ss : List Street) : Type 0 where
+pub record Front (l : Limits) (m : List ℕ) (ss : List Street) : Type 0 where
   pub good : Good-limits l
   pub room : words l ≤ length m
   pub limits : limits-in m ≡ l
@@ -27,7 +27,7 @@ pub record Rows (l : Limits) (m : List ℕ) (ss : List Street) : Type 0 where
 
 -- head and streets of m are those of some town
 abbrev pub Ready : List ℕ → Type 0
-Ready m = Rows (limits-in m) m (streets-in m)
+Ready m = Front (limits-in m) m (streets-in m)
 
 -- the lists of m are those of a town with the limits l and the streets ss
 pub record Lists (l : Limits) (m : List ℕ) (ss : List Street) : Type 0 where
@@ -35,7 +35,7 @@ pub record Lists (l : Limits) (m : List ℕ) (ss : List Street) : Type 0 where
   pub listed : (c : ℕ) → c < l .corners → take (ends-at ss c) (drop (lists-from l + ends-before ss c) m) ≡ streets-at ss c
 
 pub record Town (l : Limits) (m : List ℕ) (ss : List Street) : Type 0 where
-  pub rows : Rows l m ss
+  pub front : Front l m ss
   pub lists : Lists l m ss
 
 -- m holds a town, whichever it is

@@ -8,23 +8,20 @@ ghost use lib.ListN.{length};
 ghost use Rattle.std.specs.Options.{mapped};
 ghost use Rattle.std.specs.declared.option.Option.the-variants.{Some, None};
 ghost use Rattle.std.specs.shelf.Lists.{removed};
-ghost use Rattle.streets.specs.Calls.{opens, closes};
+ghost use Rattle.streets.specs.Calls.{longest, opens, closes};
 ghost use Rattle.streets.specs.Meaning.{as-street};
 ghost use Rattle.town.specs.Layout.{limiting, limits-in, streets-in, words};
-ghost use Rattle.town.specs.Town.{Proper, Rows, Sound};
+ghost use Rattle.town.specs.Town.{Proper, Front, Sound};
 ghost use Rattle.town.specs.Meaning.{as-limits, answered};
 ghost use Rattle.town.specs.Changes.{Opened, Called};
-use super::layout::count;
-use super::layout::limits;
-use super::layout::move_down;
-use super::layout::put_head;
-use super::layout::put_street;
-use super::layout::set_count;
+use super::layout;
 use super::limit::Limits;
 use super::lists::write_lists;
 use super::reading::corner;
 use super::refusal::Refusal;
 use streets::Street;
+
+const LONGEST: u32 = 1_000_000;
 
 // The limits, if memory of this size suffices for them.
 fn fitting(limits: Limits, size: usize) -> Option<Limits>
@@ -42,21 +39,21 @@ pub fn open_town(memory: &mut [u32], corners: u32, streets: u32) -> Result<(), R
     ensures { λ r. ⌜ Opened (limiting corners streets) (now (memory .entry)) r (now (memory .exit)) ⌝ }
 {
     let Some(limits) = Limits::new(corners, streets) else {
-        return Err(Refusal::Limits);
+        return Err(Refusal::OutOfRange);
     };
     let Some(limits) = fitting(limits, memory.len()) else {
-        return Err(Refusal::Memory);
+        return Err(Refusal::TooLittle);
     };
-    put_head(memory, limits);
+    layout::put_head(memory, limits);
     write_lists(memory);
     Ok(())
 }
 
 // The length, if a street may have it.
-fn proper(long: u32) -> Option<u32>
-    ensures { λ r. ⌜ r ≡ cond (leb 1 long && leb long 1000000) (Some long) None ⌝ }
+fn proper_length(long: u32) -> Option<u32>
+    ensures { λ r. ⌜ r ≡ cond (leb 1 long && leb long longest) (Some long) None ⌝ }
 {
-    if long < 1 || long > 1_000_000 {
+    if long < 1 || long > LONGEST {
         None
     } else {
         Some(long)
@@ -64,12 +61,12 @@ fn proper(long: u32) -> Option<u32>
 }
 
 // The number of the next street, if the limit allows one more.
-fn next(memory: &[u32]) -> Option<u16>
+fn next_number(memory: &[u32]) -> Option<u16>
     requires { ⌜ Sound (now memory) ⌝ }
     ensures { λ r. ⌜ r ≡ cond (ltb (length (streets-in (now (memory .entry)))) (limits-in (now (memory .entry)) .streets)) (Some (length (streets-in (now (memory .entry))))) None ⌝ }
 {
-    let n = count(memory);
-    if n < limits(memory).streets {
+    let n = layout::count(memory);
+    if n < layout::limits(memory).streets {
         Some(n)
     } else {
         None
@@ -81,25 +78,25 @@ fn add(memory: &mut [u32], s: Street)
     requires town { ⌜ Sound (now memory) ⌝ }
     requires free { ⌜ length (streets-in (now memory)) < limits-in (now memory) .streets ⌝ }
     requires fit { ⌜ Proper (limits-in (now memory)) (as-street s) ⌝ }
-    ensures { λ _. ⌜ Rows (limits-in (now (memory .entry))) (now (memory .exit)) (streets-in (now (memory .entry)) ++ as-street s ∷ []) ⌝ }
+    ensures { λ _. ⌜ Front (limits-in (now (memory .entry))) (now (memory .exit)) (streets-in (now (memory .entry)) ++ as-street s ∷ []) ⌝ }
 {
-    let n = count(memory);
-    put_street(memory, n, s);
-    set_count(memory, n + 1);
+    let n = layout::count(memory);
+    layout::put_street(memory, n, s);
+    layout::set_count(memory, n + 1);
 }
 
 // The i-th street goes, and those after it have each one number less, but for the corners' lists.
 fn remove(memory: &mut [u32], i: u16)
     requires town { ⌜ Sound (now memory) ⌝ }
     requires there { ⌜ i < length (streets-in (now memory)) ⌝ }
-    ensures { λ _. ⌜ Rows (limits-in (now (memory .entry))) (now (memory .exit)) (removed (streets-in (now (memory .entry))) i) ⌝ }
+    ensures { λ _. ⌜ Front (limits-in (now (memory .entry))) (now (memory .exit)) (removed (streets-in (now (memory .entry))) i) ⌝ }
 {
-    let n = count(memory);
-    move_down(memory, i, n);
-    set_count(memory, n - 1);
+    let n = layout::count(memory);
+    layout::move_down(memory, i, n);
+    layout::set_count(memory, n - 1);
 }
 
-// Opens a street; its number.
+// Opens a street, and answers with its number.
 pub fn open_street(memory: &mut [u32], one: u32, other: u32, long: u32) -> Result<u16, Refusal>
     requires { ⌜ Sound (now memory) ⌝ }
     ensures { λ r. ⌜ Called (now (memory .entry)) (opens one other long) (answered r) (now (memory .exit)) ⌝ }
@@ -110,10 +107,10 @@ pub fn open_street(memory: &mut [u32], one: u32, other: u32, long: u32) -> Resul
     let Some(other) = corner(memory, other) else {
         return Err(Refusal::NotThere);
     };
-    let Some(long) = proper(long) else {
+    let Some(long) = proper_length(long) else {
         return Err(Refusal::Length);
     };
-    let Some(i) = next(memory) else {
+    let Some(i) = next_number(memory) else {
         return Err(Refusal::Full);
     };
     add(memory, Street::new(one, other, long));
@@ -122,23 +119,23 @@ pub fn open_street(memory: &mut [u32], one: u32, other: u32, long: u32) -> Resul
 }
 
 // The number of the street, if the town has it.
-fn there(memory: &[u32], i: u32) -> Option<u16>
+fn street_number(memory: &[u32], i: u32) -> Option<u16>
     requires { ⌜ Sound (now memory) ⌝ }
     ensures { λ r. ⌜ r ≡ cond (ltb i (length (streets-in (now (memory .entry))))) (Some i) None ⌝ }
 {
-    if i < count(memory) as u32 {
+    if i < layout::count(memory) as u32 {
         Some(i as u16)
     } else {
         None
     }
 }
 
-// Closes the i-th street; i.
+// Closes the i-th street, and answers with i.
 pub fn close_street(memory: &mut [u32], i: u32) -> Result<u16, Refusal>
     requires { ⌜ Sound (now memory) ⌝ }
     ensures { λ r. ⌜ Called (now (memory .entry)) (closes i) (answered r) (now (memory .exit)) ⌝ }
 {
-    let Some(i) = there(memory, i) else {
+    let Some(i) = street_number(memory, i) else {
         return Err(Refusal::NotThere);
     };
     remove(memory, i);

@@ -1,5 +1,5 @@
 // The laws of a town in memory, each owed by a function.
-ghost use Rattle.town.specs.Laws.{Each-end, One-town};
+ghost use Rattle.town.specs.Laws.{Each-end, One-town, Memory-suffices};
 
 pub fn each_end()
     ensures { λ _. ⌜ Each-end ⌝ }
@@ -7,4 +7,8 @@ pub fn each_end()
 
 pub fn one_town()
     ensures { λ _. ⌜ One-town ⌝ }
+{}
+
+pub fn memory_suffices()
+    ensures { λ _. ⌜ Memory-suffices ⌝ }
 {}

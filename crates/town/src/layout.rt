@@ -9,12 +9,16 @@ ghost use Rattle.std.specs.declared.option.Option.the-variants.{Some, None};
 ghost use Rattle.streets.specs.Streets.{street};
 ghost use Rattle.streets.specs.Meaning.{as-street};
 ghost use Rattle.town.specs.Corners.{streets-at};
-ghost use Rattle.town.specs.Layout.{limiting, word, street-words, limits-in, streets-in, street-from, starts-from, lists-from, words, budget};
-ghost use Rattle.town.specs.Town.{Rows, Ready, Sound};
+ghost use Rattle.town.specs.Layout.{corner-words, count-at, head-words, limiting, word, street-words, limits-in, streets-in, street-from, starts-from, lists-from, words, budget};
+ghost use Rattle.town.specs.Town.{Front, Ready, Sound};
 ghost use Rattle.town.specs.Meaning.{as-limits};
 ghost use Rattle.town.specs.Changes.{in-range};
 use super::limit::Limits;
 use streets::Street;
+
+const MOST_CORNERS: u32 = 256;
+
+const MOST_STREETS: u32 = 1024;
 
 // The head: the limits, and the number of streets.
 const CORNERS: usize = 0;
@@ -28,11 +32,11 @@ const HEAD_WORDS: usize = 3;
 // A street: its ends, and its length.
 const STREET_WORDS: usize = 3;
 
-// A corner: where its list begins.
+// A corner: where its list stops. One word more says where the first begins.
 const CORNER_WORDS: usize = 1;
 
-// An end of a street, in the list of its corner.
-const END_WORDS: usize = 1;
+// A street in the lists: once for each end.
+const LIST_WORDS: usize = 2;
 
 fn street_from(i: u16) -> usize
     ensures { λ r. ⌜ r ≡ street-from i ⌝ }
@@ -44,7 +48,7 @@ impl Limits {
     pub fn new(corners: u32, streets: u32) -> Option<Limits>
         ensures { λ r. ⌜ mapped as-limits r ≡ cond (in-range (limiting corners streets)) (Some (limiting corners streets)) None ⌝ }
     {
-        if corners < 1 || corners > 256 || streets > 1024 {
+        if corners < 1 || corners > MOST_CORNERS || streets > MOST_STREETS {
             return None;
         }
         Some(Limits {
@@ -70,14 +74,14 @@ impl Limits {
         ensures is { λ r. ⌜ r ≡ words (as-limits self) ⌝ }
         ensures within { λ r. ⌜ 4 * r ≤ budget (as-limits self) ⌝ }
     {
-        self.lists_from() + 2 * END_WORDS * self.streets as usize
+        self.lists_from() + LIST_WORDS * self.streets as usize
     }
 }
 
 // The head of a town that has no streets.
 pub fn put_head(memory: &mut [u32], limits: Limits)
     requires { ⌜ words (as-limits limits) ≤ length (now memory) ⌝ }
-    ensures { λ _. ⌜ Rows (as-limits limits) (now (memory .exit)) [] ⌝ }
+    ensures { λ _. ⌜ Front (as-limits limits) (now (memory .exit)) [] ⌝ }
 {
     memory[CORNERS] = limits.corners as u32;
     memory[STREETS] = limits.streets as u32;
@@ -94,12 +98,20 @@ pub fn limits(memory: &[u32]) -> Limits
     }
 }
 
-// Where the corners' numbers begin, behind the one before the first.
-pub fn numbers_from(memory: &[u32]) -> usize
+// Where it begins to say where each corner's list stops.
+pub fn stops_from(memory: &[u32]) -> usize
     requires { ⌜ Ready (now memory) ⌝ }
     ensures { λ r. ⌜ r ≡ suc (starts-from (limits-in (now (memory .entry)))) ⌝ }
 {
     limits(memory).starts_from() + 1
+}
+
+// How far behind that the lists begin.
+pub fn lists_behind(memory: &[u32]) -> usize
+    requires { ⌜ Ready (now memory) ⌝ }
+    ensures { λ r. ⌜ r ≡ corner-words * limits-in (now (memory .entry)) .corners ⌝ }
+{
+    CORNER_WORDS * corners(memory) as usize
 }
 
 pub fn corners(memory: &[u32]) -> u16
@@ -117,7 +129,7 @@ pub fn count(memory: &[u32]) -> u16
 }
 
 pub fn street(memory: &[u32], i: u16) -> Street
-    requires rows { ⌜ Ready (now memory) ⌝ }
+    requires front { ⌜ Ready (now memory) ⌝ }
     requires there { ⌜ i < length (streets-in (now memory)) ⌝ }
     ensures { λ r. ⌜ as-street r ≡ street (streets-in (now (memory .entry))) i ⌝ }
 {
@@ -140,8 +152,8 @@ pub fn list_at(memory: &[u32], c: u16) -> (usize, usize)
 }
 
 pub fn set_count(memory: &mut [u32], n: u16)
-    requires { ⌜ 3 ≤ length (now memory) ⌝ }
-    ensures { λ _. ⌜ now (memory .exit) ≡ set (now (memory .entry)) 2 n ⌝ }
+    requires { ⌜ head-words ≤ length (now memory) ⌝ }
+    ensures { λ _. ⌜ now (memory .exit) ≡ set (now (memory .entry)) count-at n ⌝ }
 {
     memory[COUNT] = n as u32;
 }

@@ -6,8 +6,8 @@ ghost use Rattle.town.specs.Meaning.{refusal-number, refusal-place};
 pub enum Refusal {
     NotThere,
     Length,
-    Limits,
-    Memory,
+    OutOfRange,
+    TooLittle,
     Full,
 }
 
@@ -18,7 +18,7 @@ impl Refusal {
         match self {
             Refusal::NotThere => 4,
             Refusal::Length => 2,
-            Refusal::Limits | Refusal::Memory => 3,
+            Refusal::OutOfRange | Refusal::TooLittle => 3,
             Refusal::Full => 5,
         }
     }
@@ -28,7 +28,7 @@ impl Refusal {
     {
         match self {
             Refusal::Length => 2,
-            Refusal::Memory => 1,
+            Refusal::TooLittle => 1,
             _ => 0,
         }
     }

@@ -32,6 +32,11 @@ call-in (k ∷ bs) =
     (cond (eqb k 3) (fitting 4 bs (round (word-at bs 0)))
     (Err 0))))
 
+-- the call that any row stands for
+abbrev pub called : Result Call ℕ → Call
+called (Ok c) = c
+called (Err p) = garbled p
+
 -- the row of the first call of a sequence, cut short where the bytes end
 abbrev pub fields-size : ℕ → ℕ
 fields-size k = cond (eqb k 0) 12 (cond (eqb k 1) 4 (cond (eqb k 3) 4 0))
