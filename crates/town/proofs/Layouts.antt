@@ -75,9 +75,16 @@ module _ (l : Limits) (m : List ℕ) (ss : List Street) (r : Front l m ss) where
       let p = r .proper i h in
       omega (arith, ap (λ (s : Street). s .one) w, ap (λ (s : Street). s .other) w, p .one-there, p .other-there, r .good .few-corners)
 
+  -- what holds of l and ss holds of what memory is read as, and the other way round
+  pub as-read : (P : Limits → List Street → Type 0) → P l ss → P (limits-in m) (streets-in m)
+  as-read P p = subst (λ (x : Limits). P x (streets-in m)) (sym (r .limits)) (subst (P l) (sym (r .streets)) p)
+
+  pub as-known : (P : Limits → List Street → Type 0) → P (limits-in m) (streets-in m) → P l ss
+  as-known P p = subst (λ (x : Limits). P x ss) (r .limits) (subst (P (limits-in m)) (r .streets) p)
+
   -- the town in a memory that the lists were written to
   pub relisted : (m′ : List ℕ) → Town (limits-in m) m′ (streets-in m) → Town l m′ ss
-  relisted m′ t = subst (λ (x : Limits). Town x m′ ss) (r .limits) (subst (Town (limits-in m) m′) (r .streets) t)
+  relisted m′ t = as-known (λ x y. Town x m′ y) t
 
   pub same-read : (s : Street) (i : ℕ) → s ≡ street (streets-in m) i → s ≡ street ss i
   same-read s i e = e ∙ ap (λ (x : List Street). street x i) (r .streets)

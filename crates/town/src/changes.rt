@@ -2,7 +2,7 @@
 ghost use mathlib.Core.Path.{_≡_};
 ghost use mathlib.Core.Bool.{cond, _&&_};
 ghost use mathlib.Core.List.{[], _∷_, _++_};
-ghost use Prim.Native.Nat.{_<_};
+ghost use Prim.Native.Nat.{_≤_, _<_};
 ghost use lib.Dec.{ltb, leb};
 ghost use lib.ListN.{length};
 ghost use Rattle.std.specs.Options.{mapped};
@@ -11,7 +11,7 @@ ghost use Rattle.std.specs.shelf.Lists.{removed};
 ghost use Rattle.streets.specs.Calls.{longest, opens, closes};
 ghost use Rattle.streets.specs.Meaning.{as-street};
 ghost use Rattle.town.specs.Layout.{limiting, limits-in, streets-in, words};
-ghost use Rattle.town.specs.Town.{Proper, Front, Sound};
+ghost use Rattle.town.specs.Town.{Proper, Front, Town, Sound};
 ghost use Rattle.town.specs.Meaning.{as-limits, answered};
 ghost use Rattle.town.specs.Changes.{Opened, Called};
 use super::layout;
@@ -34,7 +34,16 @@ fn fitting(limits: Limits, size: usize) -> Option<Limits>
     }
 }
 
-// Makes memory a town without streets; what it held before does not matter.
+// A town without streets, whatever the words held before.
+fn begin(town: &mut [u32], limits: Limits)
+    requires { ⌜ words (as-limits limits) ≤ length (now town) ⌝ }
+    ensures { λ _. ⌜ Town (as-limits limits) (now (town .exit)) [] ⌝ }
+{
+    layout::put_head(town, limits);
+    write_lists(town);
+}
+
+// Makes memory a town without streets. What lies behind the words that it asks for stays.
 pub fn open_town(memory: &mut [u32], corners: u32, streets: u32) -> Result<(), Refusal>
     ensures { λ r. ⌜ Opened (limiting corners streets) (now (memory .entry)) r (now (memory .exit)) ⌝ }
 {
@@ -44,8 +53,7 @@ pub fn open_town(memory: &mut [u32], corners: u32, streets: u32) -> Result<(), R
     let Some(limits) = fitting(limits, memory.len()) else {
         return Err(Refusal::TooLittle);
     };
-    layout::put_head(memory, limits);
-    write_lists(memory);
+    begin(&mut memory[0..limits.words()], limits);
     Ok(())
 }
 
@@ -74,26 +82,45 @@ fn next_number(memory: &[u32]) -> Option<u16>
 }
 
 // One street more, not yet in its corners' lists.
-fn add(memory: &mut [u32], s: Street)
-    requires town { ⌜ Sound (now memory) ⌝ }
-    requires free { ⌜ length (streets-in (now memory)) < limits-in (now memory) .streets ⌝ }
-    requires fit { ⌜ Proper (limits-in (now memory)) (as-street s) ⌝ }
-    ensures { λ _. ⌜ Front (limits-in (now (memory .entry))) (now (memory .exit)) (streets-in (now (memory .entry)) ++ as-street s ∷ []) ⌝ }
+fn put_last(town: &mut [u32], s: Street)
+    requires holds { ⌜ Sound (now town) ⌝ }
+    requires free { ⌜ length (streets-in (now town)) < limits-in (now town) .streets ⌝ }
+    requires fit { ⌜ Proper (limits-in (now town)) (as-street s) ⌝ }
+    ensures { λ _. ⌜ Front (limits-in (now (town .entry))) (now (town .exit)) (streets-in (now (town .entry)) ++ as-street s ∷ []) ⌝ }
 {
-    let n = layout::count(memory);
-    layout::put_street(memory, n, s);
-    layout::set_count(memory, n + 1);
+    let n = layout::count(town);
+    layout::put_street(town, n, s);
+    layout::set_count(town, n + 1);
+}
+
+fn add(town: &mut [u32], s: Street)
+    requires holds { ⌜ Sound (now town) ⌝ }
+    requires free { ⌜ length (streets-in (now town)) < limits-in (now town) .streets ⌝ }
+    requires fit { ⌜ Proper (limits-in (now town)) (as-street s) ⌝ }
+    ensures { λ _. ⌜ Town (limits-in (now (town .entry))) (now (town .exit)) (streets-in (now (town .entry)) ++ as-street s ∷ []) ⌝ }
+{
+    put_last(town, s);
+    write_lists(town);
 }
 
 // The i-th street goes, and those after it have each one number less, but for the corners' lists.
-fn remove(memory: &mut [u32], i: u16)
-    requires town { ⌜ Sound (now memory) ⌝ }
-    requires there { ⌜ i < length (streets-in (now memory)) ⌝ }
-    ensures { λ _. ⌜ Front (limits-in (now (memory .entry))) (now (memory .exit)) (removed (streets-in (now (memory .entry))) i) ⌝ }
+fn take_out(town: &mut [u32], i: u16)
+    requires holds { ⌜ Sound (now town) ⌝ }
+    requires there { ⌜ i < length (streets-in (now town)) ⌝ }
+    ensures { λ _. ⌜ Front (limits-in (now (town .entry))) (now (town .exit)) (removed (streets-in (now (town .entry))) i) ⌝ }
 {
-    let n = layout::count(memory);
-    layout::move_down(memory, i, n);
-    layout::set_count(memory, n - 1);
+    let n = layout::count(town);
+    layout::move_down(town, i, n);
+    layout::set_count(town, n - 1);
+}
+
+fn remove(town: &mut [u32], i: u16)
+    requires holds { ⌜ Sound (now town) ⌝ }
+    requires there { ⌜ i < length (streets-in (now town)) ⌝ }
+    ensures { λ _. ⌜ Town (limits-in (now (town .entry))) (now (town .exit)) (removed (streets-in (now (town .entry))) i) ⌝ }
+{
+    take_out(town, i);
+    write_lists(town);
 }
 
 // Opens a street, and answers with its number.
@@ -113,8 +140,8 @@ pub fn open_street(memory: &mut [u32], one: u32, other: u32, long: u32) -> Resul
     let Some(i) = next_number(memory) else {
         return Err(Refusal::Full);
     };
-    add(memory, Street::new(one, other, long));
-    write_lists(memory);
+    let n = layout::size(memory);
+    add(&mut memory[0..n], Street::new(one, other, long));
     Ok(i)
 }
 
@@ -138,7 +165,7 @@ pub fn close_street(memory: &mut [u32], i: u32) -> Result<u16, Refusal>
     let Some(i) = street_number(memory, i) else {
         return Err(Refusal::NotThere);
     };
-    remove(memory, i);
-    write_lists(memory);
+    let n = layout::size(memory);
+    remove(&mut memory[0..n], i);
     Ok(i)
 }

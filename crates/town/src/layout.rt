@@ -98,6 +98,14 @@ pub fn limits(memory: &[u32]) -> Limits
     }
 }
 
+// How many words the town has.
+pub fn size(memory: &[u32]) -> usize
+    requires { ⌜ Ready (now memory) ⌝ }
+    ensures { λ r. ⌜ r ≡ words (limits-in (now (memory .entry))) ⌝ }
+{
+    limits(memory).words()
+}
+
 // Where it begins to say where each corner's list stops.
 pub fn stops_from(memory: &[u32]) -> usize
     requires { ⌜ Ready (now memory) ⌝ }

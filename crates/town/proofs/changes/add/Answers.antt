@@ -1,5 +1,5 @@
-use Rattle.town.proofs.Changing.{front-added}
+use Rattle.town.proofs.Layouts.{relisted}
 use Rattle.town.proofs.changes.add.Needs as need
 
 pub returns : need.returns
-returns c = front-added _ _ _ (c .pre .town .front) _ _ (c .count-n .ensures) (c .pre .free) (c .pre .fit) _ _ (c .put-street .ensures) (c .set-count .ensures)
+returns c = relisted _ _ _ (c .put-last .ensures) _ (c .write-lists .ensures)

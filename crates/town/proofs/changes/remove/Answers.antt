@@ -1,7 +1,5 @@
-use Rattle.town.proofs.Changing.{front-removed}
+use Rattle.town.proofs.Layouts.{relisted}
 use Rattle.town.proofs.changes.remove.Needs as need
 
 pub returns : need.returns
-returns c =
-    let moved = c .move-down .ensures in
-    front-removed _ _ _ (c .pre .town .front) _ _ _ _ (c .pre .there) (c .count-n .ensures) (c .move-down .kept .memory) (moved .moved) (moved .before) (c .set-count .ensures)
+returns c = relisted _ _ _ (c .take-out .ensures) _ (c .write-lists .ensures)
