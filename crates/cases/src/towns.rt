@@ -1,4 +1,4 @@
-// Towns: limits and memory at their ends, refusals and what they leave, the streets of each corner.
+// Towns: limits and memory at their bounds, refusals and what they leave, the streets of each corner.
 ghost use Rattle.town.specs.Town.{Sound};
 use std::test::*;
 use town::Limits;
@@ -153,7 +153,7 @@ fn streets_of_corners() -> Result<(), Fail> {
     lists(&memory, [&[], &[], &[], &[]])
 }
 
-// A town as large as there are, with eight ends at each corner.
+// Fills the largest town: eight ends at each corner.
 fn fill(memory: &mut [u32]) -> Result<(), Fail>
     requires { ⌜ Sound (now memory) ⌝ }
     ensures { λ _. ⌜ Sound (now (memory .exit)) ⌝ }

@@ -3,7 +3,7 @@ ghost use mathlib.Core.Path.{_≡_};
 ghost use Rattle.std.specs.Of.String.{string-bytes};
 ghost use Rattle.std.specs.Vec.{made};
 ghost use Rattle.town.specs.Meaning.{refusal-number, refusal-place};
-ghost use Rattle.desk.specs.Lines.{refused-text, changed-text, reply-text};
+ghost use Rattle.desk.specs.Lines.{refused-text, answer-text, reply-text};
 use super::reply::Reply;
 use std::alloc::AllocError;
 use std::alloc::Global;
@@ -21,10 +21,10 @@ pub fn refusal_line(heap: Global, refusal: Refusal) -> Result<String, AllocError
     refused_line(heap, refusal.number(), refusal.place() as usize)
 }
 
-fn changed_line(heap: Global, changed: Result<u16, Refusal>) -> Result<String, AllocError>
-    ensures { λ r. ⌜ made r (λ t. string-bytes t ≡ changed-text changed) ⌝ }
+fn answer_line(heap: Global, answer: Result<u16, Refusal>) -> Result<String, AllocError>
+    ensures { λ r. ⌜ made r (λ t. string-bytes t ≡ answer-text answer) ⌝ }
 {
-    match changed {
+    match answer {
         Ok(n) => format!(heap, "{n}"),
         Err(refusal) => refusal_line(heap, refusal),
     }
@@ -34,7 +34,7 @@ pub fn line(heap: Global, reply: Reply) -> Result<String, AllocError>
     ensures { λ r. ⌜ made r (λ t. string-bytes t ≡ reply-text reply) ⌝ }
 {
     match reply {
-        Reply::Changed(changed) => changed_line(heap, changed),
+        Reply::Answered(answer) => answer_line(heap, answer),
         Reply::Odd => format!(heap, "odd"),
         Reply::Round { from } => format!(heap, "round {from}"),
         Reply::Unreadable { place } => refused_line(heap, 1, place),

@@ -21,7 +21,7 @@ const CORNERS: u32 = 32;
 
 const STREETS: u32 = 64;
 
-// The calls in the file that is named, or on standard input where none is.
+// The calls in the file that is named, or on standard input if none is.
 fn input(rt: &LibcRuntime) -> Result<Vec<u8>, AnyError> {
     let mut args = env::args(rt)?.skip(1);
     let Some(path) = args.next() else {

@@ -12,7 +12,7 @@ use wire::read_call;
 
 // A call that changes streets has its number or its refusal; calls that ask are not answered yet.
 pub enum Reply {
-    Changed(Result<u16, Refusal>),
+    Answered(Result<u16, Refusal>),
     Odd,
     Round { from: u32 },
     Unreadable { place: usize },
@@ -35,8 +35,8 @@ fn answer(memory: &mut [u32], call: Call) -> Reply
     ensures town { λ _. ⌜ Sound (now (memory .exit)) ⌝ }
 {
     match call {
-        Call::Open { one, other, long } => Reply::Changed(open_street(memory, one, other, long)),
-        Call::Close { street } => Reply::Changed(close_street(memory, street)),
+        Call::Open { one, other, long } => Reply::Answered(open_street(memory, one, other, long)),
+        Call::Close { street } => Reply::Answered(close_street(memory, street)),
         Call::Odd => Reply::Odd,
         Call::Round { from } => Reply::Round { from },
     }

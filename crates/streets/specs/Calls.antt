@@ -2,9 +2,10 @@
 use mathlib.Core.Path.{_≡_}
 use mathlib.Core.Bool.{true, false, _&&_}
 use mathlib.Core.List.{List, [], _∷_, _++_}
-use Prim.Native.Nat.{ℕ, suc, _*_, _≤_, _<_}
+use Prim.Native.Nat.{ℕ, _*_, _≤_, _<_}
 use lib.Dec.{ltb, leb}
-use lib.ListN.{length, take, drop}
+use lib.ListN.{length}
+use Rattle.std.specs.shelf.Lists.{removed}
 use Rattle.streets.specs.Streets.{Street, Leg, joining, is-round, how-long, odd-corners, at-most-twice}
 use Rattle.streets.specs.Protocol.{Check, asking, Protocol}
 
@@ -26,6 +27,9 @@ pub data Answer : Type 0 where
 pub record Limits : Type 0 where
   pub corners : ℕ
   pub streets : ℕ
+
+abbrev pub limiting : ℕ → ℕ → Limits
+limiting n k = record { corners = n; streets = k }
 
 abbrev pub most-corners : ℕ
 most-corners = 256
@@ -53,7 +57,7 @@ checks l ss (garbled p) = asking 1 p false ∷ []
 
 unfoldable pub changed : List Street → Call → List Street
 changed ss (opens a b n) = ss ++ joining a b n ∷ []
-changed ss (closes i) = take i ss ++ drop (suc i) ss
+changed ss (closes i) = removed ss i
 changed ss odd = ss
 changed ss (round c) = ss
 changed ss (garbled p) = ss

@@ -1,4 +1,4 @@
--- Calls refused and accepted.
+-- Calls that pass their checks.
 use mathlib.Core.Path.{_≡_, sym, ap, subst, _∙_}
 use mathlib.Core.Bool.{Bool, true, cond, _&&_}
 use mathlib.Core.List.{List, [], _∷_, _++_}

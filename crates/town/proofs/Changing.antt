@@ -12,13 +12,13 @@ use Rattle.std.proofs.shelf.Tests.{cases-lt}
 use Rattle.streets.specs.Streets.{Street, joining, street}
 use Rattle.streets.specs.Calls.{Limits}
 use Rattle.streets.specs.Promise.{Good-limits}
-use Rattle.town.specs.Layout.{street-words, word, street-from, street-in, words}
+use Rattle.town.specs.Layout.{corners-at, limit-at, count-at, street-words, word, street-from, street-in, words}
 use Rattle.town.specs.Town.{Proper, Front}
 use Rattle.town.proofs.Layouts.{front-from, street-is, street-moved, street-read, limit-words}
 
 -- the words of a street written from p on, and then the number of streets
 abbrev pub written : List ℕ → ℕ → Street → ℕ → List ℕ
-written m p s n = set (set (set (set m p (s .one)) (p + 1) (s .other)) (p + 2) (s .long)) 2 n
+written m p s n = set (set (set (set m p (s .one)) (p + 1) (s .other)) (p + 2) (s .long)) count-at n
 
 module _ (m : List ℕ) (p : ℕ) (s : Street) (n : ℕ) (there : p + 2 < length m) (behind : 2 < p) where
   one : List ℕ
@@ -36,27 +36,27 @@ module _ (m : List ℕ) (p : ℕ) (s : Street) (n : ℕ) (there : p + 2 < length
       let a = length-set m p (s .one) in
       let b = length-set one (p + 1) (s .other) ∙ a in
       let c = length-set two (p + 2) (s .long) ∙ b in
-      (a, b, c, length-set three 2 n ∙ c)
+      (a, b, c, length-set three count-at n ∙ c)
 
-  written-count : word (written m p s n) 2 ≡ n
+  written-count : word (written m p s n) count-at ≡ n
   unfolding one two three
-  written-count = getD-set-same three 2 n 0 (omega (arith, lengths .2))
+  written-count = getD-set-same three count-at n 0 (omega (arith, lengths .2))
 
   written-street : (word (written m p s n) p ≡ s .one) × (word (written m p s n) (p + 1) ≡ s .other) × (word (written m p s n) (p + 2) ≡ s .long)
   unfolding one two three
   written-street = (
-    getD-set-other three 2 p n 0 (λ e. omega arith) ∙ getD-set-other two (p + 2) p (s .long) 0 (λ e. omega arith) ∙ getD-set-other one (p + 1) p (s .other) 0 (λ e. omega arith) ∙ getD-set-same m p (s .one) 0 (omega arith),
-    getD-set-other three 2 (p + 1) n 0 (λ e. omega arith) ∙ getD-set-other two (p + 2) (p + 1) (s .long) 0 (λ e. omega arith) ∙ getD-set-same one (p + 1) (s .other) 0 (omega (arith, lengths .0)),
-    getD-set-other three 2 (p + 2) n 0 (λ e. omega arith) ∙ getD-set-same two (p + 2) (s .long) 0 (omega (arith, lengths .1)),
+    getD-set-other three count-at p n 0 (λ e. omega arith) ∙ getD-set-other two (p + 2) p (s .long) 0 (λ e. omega arith) ∙ getD-set-other one (p + 1) p (s .other) 0 (λ e. omega arith) ∙ getD-set-same m p (s .one) 0 (omega arith),
+    getD-set-other three count-at (p + 1) n 0 (λ e. omega arith) ∙ getD-set-other two (p + 2) (p + 1) (s .long) 0 (λ e. omega arith) ∙ getD-set-same one (p + 1) (s .other) 0 (omega (arith, lengths .0)),
+    getD-set-other three count-at (p + 2) n 0 (λ e. omega arith) ∙ getD-set-same two (p + 2) (s .long) 0 (omega (arith, lengths .1)),
   )
 
-  written-else : (k : ℕ) → k < p → (k ≡ 2 → ⊥) → word (written m p s n) k ≡ word m k
+  written-else : (k : ℕ) → k < p → (k ≡ count-at → ⊥) → word (written m p s n) k ≡ word m k
   unfolding one two three
   written-else k h not-count =
-      getD-set-other three 2 k n 0 not-count ∙ getD-set-other two (p + 2) k (s .long) 0 (λ e. omega arith) ∙ getD-set-other one (p + 1) k (s .other) 0 (λ e. omega arith) ∙ getD-set-other m p k (s .one) 0 (λ e. omega arith)
+      getD-set-other three count-at k n 0 not-count ∙ getD-set-other two (p + 2) k (s .long) 0 (λ e. omega arith) ∙ getD-set-other one (p + 1) k (s .other) 0 (λ e. omega arith) ∙ getD-set-other m p k (s .one) 0 (λ e. omega arith)
 
 -- a town without streets
-pub head-written : (l : Limits) (m : List ℕ) → Good-limits l → words l ≤ length m → Front l (set (set (set m 0 (l .corners)) 1 (l .streets)) 2 0) []
+pub head-written : (l : Limits) (m : List ℕ) → Good-limits l → words l ≤ length m → Front l (set (set (set m corners-at (l .corners)) limit-at (l .streets)) count-at 0) []
 head-written l m good room =
     let one = set m 0 (l .corners) in
     let two = set one 1 (l .streets) in
@@ -78,7 +78,7 @@ module _ (l : Limits) (m : List ℕ) (ss : List Street) (r : Front l m ss) where
     m′ : List ℕ
     m′ = written m (street-from i) s (i + 1)
 
-    else : (k : ℕ) → k < street-from i → (k ≡ 2 → ⊥) → word m′ k ≡ word m k
+    else : (k : ℕ) → k < street-from i → (k ≡ count-at → ⊥) → word m′ k ≡ word m k
     unfolding m′
     else = written-else m (street-from i) s (i + 1) there (omega arith)
 
@@ -107,18 +107,18 @@ module _ (l : Limits) (m : List ℕ) (ss : List Street) (r : Front l m ss) where
         let ws = limit-words l m ss r in
         let more = length-push ss s in
         front-from l m′ (ss ++ s ∷ []) (r .good) (omega (arith, r .room, lengths m (street-from i) s (i + 1) there (omega arith) .3))
-        (else 0 (omega arith) (λ e. omega arith) ∙ ws .0, else 1 (omega arith) (λ e. omega arith) ∙ ws .1, written-count m (street-from i) s (i + 1) there (omega arith) ∙ omega arith)
+        (else corners-at (omega arith) (λ e. omega arith) ∙ ws .0, else limit-at (omega arith) (λ e. omega arith) ∙ ws .1, written-count m (street-from i) s (i + 1) there (omega arith) ∙ omega arith)
         (of-all (λ k x. street-in m′ k ≡ x) same-street new-street) (omega arith) (of-all (λ _ x. Proper l x) (r .proper) proper)
 
-    pub front-added : (m₁ m₂ : List ℕ) → m₁ ≡ set (set (set m (street-from i) (s .one)) (street-from i + 1) (s .other)) (street-from i + 2) (s .long) → m₂ ≡ set m₁ 2 (i + 1) → Front l m₂ (ss ++ s ∷ [])
-    front-added m₁ m₂ put counted = subst (λ (x : List ℕ). Front l x (ss ++ s ∷ [])) (sym (counted ∙ ap (λ (x : List ℕ). set x 2 (i + 1)) put)) street-added
+    pub front-added : (m₁ m₂ : List ℕ) → m₁ ≡ set (set (set m (street-from i) (s .one)) (street-from i + 1) (s .other)) (street-from i + 2) (s .long) → m₂ ≡ set m₁ count-at (i + 1) → Front l m₂ (ss ++ s ∷ [])
+    front-added m₁ m₂ put counted = subst (λ (x : List ℕ). Front l x (ss ++ s ∷ [])) (sym (counted ∙ ap (λ (x : List ℕ). set x count-at (i + 1)) put)) street-added
 
   -- street i taken out: those behind it are moved, those before it stay
-  module _ (i n : ℕ) (m₁ m₂ : List ℕ) (there : i < length ss) (all : n ≡ length ss) (long : length m₁ ≡ length m) (moved : (p : ℕ) → street-from i ≤ p → p + street-words < street-from n → word m₁ p ≡ word m (p + street-words)) (before : (p : ℕ) → p < street-from i → word m₁ p ≡ word m p) (counted : m₂ ≡ set m₁ 2 (n - 1)) where
-    word₂ : (p : ℕ) → (p ≡ 2 → ⊥) → word m₂ p ≡ word m₁ p
-    word₂ p other = ap (λ (x : List ℕ). word x p) counted ∙ getD-set-other m₁ 2 p (n - 1) 0 other
+  module _ (i n : ℕ) (m₁ m₂ : List ℕ) (there : i < length ss) (all : n ≡ length ss) (long : length m₁ ≡ length m) (moved : (p : ℕ) → street-from i ≤ p → p + street-words < street-from n → word m₁ p ≡ word m (p + street-words)) (before : (p : ℕ) → p < street-from i → word m₁ p ≡ word m p) (counted : m₂ ≡ set m₁ count-at (n - 1)) where
+    word₂ : (p : ℕ) → (p ≡ count-at → ⊥) → word m₂ p ≡ word m₁ p
+    word₂ p other = ap (λ (x : List ℕ). word x p) counted ∙ getD-set-other m₁ count-at p (n - 1) 0 other
 
-    stays : (p : ℕ) → p < street-from i → (p ≡ 2 → ⊥) → word m₂ p ≡ word m p
+    stays : (p : ℕ) → p < street-from i → (p ≡ count-at → ⊥) → word m₂ p ≡ word m p
     stays p h other = word₂ p other ∙ before p h
 
     moves : (p q : ℕ) → q ≡ p + street-words → street-from i ≤ p → q < street-from n → word m₂ p ≡ word m q
@@ -144,6 +144,6 @@ module _ (l : Limits) (m : List ℕ) (ss : List Street) (r : Front l m ss) where
     front-removed =
         let ws = limit-words l m ss r in
         let fewer = length-removed ss i there in
-        let size : length m₂ ≡ length m = ap length counted ∙ length-set m₁ 2 (n - 1) ∙ long in
-        let left : word m₂ 2 ≡ n - 1 = ap (λ (x : List ℕ). word x 2) counted ∙ getD-set-same m₁ 2 (n - 1) 0 (omega (arith, r .room)) in
-        front-from l m₂ (removed ss i) (r .good) (omega (arith, r .room)) (stays 0 (omega arith) (λ e. omega arith) ∙ ws .0, stays 1 (omega arith) (λ e. omega arith) ∙ ws .1, omega arith) (λ k h. each-left k h .0) (omega (arith, r .few)) (λ k h. each-left k h .1)
+        let size : length m₂ ≡ length m = ap length counted ∙ length-set m₁ count-at (n - 1) ∙ long in
+        let left : word m₂ count-at ≡ n - 1 = ap (λ (x : List ℕ). word x count-at) counted ∙ getD-set-same m₁ count-at (n - 1) 0 (omega (arith, r .room)) in
+        front-from l m₂ (removed ss i) (r .good) (omega (arith, r .room)) (stays corners-at (omega arith) (λ e. omega arith) ∙ ws .0, stays limit-at (omega arith) (λ e. omega arith) ∙ ws .1, omega arith) (λ k h. each-left k h .0) (omega (arith, r .few)) (λ k h. each-left k h .1)

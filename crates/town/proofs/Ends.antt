@@ -27,6 +27,10 @@ sum-upto f i (suc n) h =
       | inr m ↦ omega (arith, sum-upto f i n m)
     ]
 
+pub sum-next : (f : ℕ → ℕ) (k : ℕ) → sum-below f (k + 1) ≡ sum-below f k + f k
+unfolding sum-below
+sum-next f k = let e : k + 1 ≡ suc k = omega arith in omega (arith, ap (sum-below f) e)
+
 -- the ends at c of the streets below i
 abbrev pub ends-below : List Street → ℕ → ℕ → ℕ
 ends-below ss i c = sum-below (λ j. ends (street ss j) c) i
@@ -37,8 +41,7 @@ module _ (ss : List Street) where
   ends-none c = refl
 
   pub ends-more : (i c : ℕ) → ends-below ss (i + 1) c ≡ ends-below ss i c + ends (street ss i) c
-  unfolding sum-below
-  ends-more i c = let e : i + 1 ≡ suc i = omega arith in omega (arith, ap (sum-below (λ j. ends (street ss j) c)) e)
+  ends-more i c = sum-next (λ j. ends (street ss j) c) i
 
   pub ends-all : (c : ℕ) → ends-below ss (length ss) c ≡ ends-at ss c
   unfolding weigh

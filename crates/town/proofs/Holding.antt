@@ -1,4 +1,4 @@
--- What a town in memory promises of its streets and lists.
+-- Where a corner's list stands, and which words hold the town.
 use mathlib.Core.Path.{_≡_, sym, ap, _∙_}
 use mathlib.Core.List.{List, []}
 use Prim.Native.Nat.{ℕ, suc, _+_, _-_, _≤_, _<_}

@@ -14,11 +14,11 @@ use Rattle.streets.proofs.Tests.{in-town-from}
 use Rattle.streets.proofs.Degrees.{two-ends}
 use Rattle.town.specs.Corners.{ends-before}
 use Rattle.town.proofs.Ends.{before-upto}
-use Rattle.streets.specs.Calls.{Limits}
-use Rattle.town.specs.Layout.{corners-at, limit-at, count-at, limiting, word, limits-in, count-in, street-from, street-in, streets-in, words}
+use Rattle.streets.specs.Calls.{Limits, limiting}
+use Rattle.town.specs.Layout.{corners-at, limit-at, count-at, word, limits-in, count-in, street-from, street-in, streets-in, words}
 use Rattle.town.specs.Town.{Proper, Front, Town}
 
--- the same the other way round: what the words have to be
+-- the limits, from their words
 limits-read : (l : Limits) (m : List ℕ) → word m corners-at ≡ l .corners → word m limit-at ≡ l .streets → limits-in m ≡ l
 unfolding limits-in
 limits-read l m e f = ap (λ (x : ℕ). limiting x (word m limit-at)) e ∙ ap (limiting (l .corners)) f
@@ -65,13 +65,13 @@ module _ (l : Limits) (m : List ℕ) (ss : List Street) (r : Front l m ss) where
       sym e ∙ ap (λ (x : List Street). street x i) (r .streets)
 
   -- the same by its words, from `at` on
-  pub street-words : (i at : ℕ) → i < length ss → at ≡ street-from i → joining (word m at) (word m (at + 1)) (word m (at + 2)) ≡ street ss i
+  pub street-by-words : (i at : ℕ) → i < length ss → at ≡ street-from i → joining (word m at) (word m (at + 1)) (word m (at + 2)) ≡ street ss i
   unfolding street-in
-  street-words i at h e = ap (λ (p : ℕ). joining (word m p) (word m (p + 1)) (word m (p + 2))) e ∙ street-read i h
+  street-by-words i at h e = ap (λ (p : ℕ). joining (word m p) (word m (p + 1)) (word m (p + 2))) e ∙ street-read i h
 
   pub ends-short : (i at : ℕ) → i < length ss → at ≡ street-from i → (word m at < 65536) × (word m (at + 1) < 65536)
   ends-short i at h e =
-      let w = street-words i at h e in
+      let w = street-by-words i at h e in
       let p = r .proper i h in
       omega (arith, ap (λ (s : Street). s .one) w, ap (λ (s : Street). s .other) w, p .one-there, p .other-there, r .good .few-corners)
 

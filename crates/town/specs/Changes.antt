@@ -38,7 +38,7 @@ pub record Opened {A : Type 0} (l : Limits) (m : List ℕ) (r : Result A Refusal
   pub kept : 0 < told-number r → m′ ≡ m
   pub behind : drop (words l) m′ ≡ drop (words l) m
 
--- the answer a to the call c is right by the streets before it, memory holds the town after it, and a refused call leaves memory as it was, any call what lies behind the town's words
+-- the answer a to the call c is right by the streets before it, memory holds the town after it, a refused call leaves memory as it was, and no call changes what lies behind the town's words
 pub record Called (m : List ℕ) (c : Call) (a : Answer) (m′ : List ℕ) : Type 0 where
   pub says : right (town (limits-in m)) (streets-in m) c a
   pub holds : Town (limits-in m) m′ (after (town (limits-in m)) (streets-in m) c)

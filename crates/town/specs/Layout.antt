@@ -4,10 +4,7 @@ use Prim.Native.Nat.{ℕ, suc, _+_, _-_, _*_, _/_}
 use lib.ListN.{getD}
 use Rattle.std.specs.Iters.{counting}
 use Rattle.streets.specs.Streets.{Street, joining}
-use Rattle.streets.specs.Calls.{Limits}
-
-abbrev pub limiting : ℕ → ℕ → Limits
-limiting n k = record { corners = n; streets = k }
+use Rattle.streets.specs.Calls.{Limits, limiting}
 
 abbrev pub word : List ℕ → ℕ → ℕ
 word m p = getD m p 0

@@ -2,13 +2,13 @@
 use Prim.Native.Nat.{ℕ}
 use Rattle.std.specs.declared.result.Result.{Result}
 use Rattle.std.specs.declared.result.Result.the-variants.{Ok, Err}
-use Rattle.streets.specs.Calls.{Limits, Answer, number, refused}
+use Rattle.streets.specs.Calls.{Limits, limiting, Answer, number, refused}
 use Rattle.town.specs.declared.limit.Limits.{Limits as Limits-struct}
 use Rattle.town.specs.declared.refusal.Refusal.{Refusal as Refusal-enum}
 use Rattle.town.specs.declared.refusal.Refusal.the-variants as case
 
 abbrev pub as-limits : Limits-struct → Limits
-as-limits l = record { corners = l .corners; streets = l .streets }
+as-limits l = limiting (l .corners) (l .streets)
 
 abbrev pub refusal-number : Refusal-enum → ℕ
 refusal-number case.NotThere = 4

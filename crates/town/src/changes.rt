@@ -8,9 +8,9 @@ ghost use lib.ListN.{length};
 ghost use Rattle.std.specs.Options.{mapped};
 ghost use Rattle.std.specs.declared.option.Option.the-variants.{Some, None};
 ghost use Rattle.std.specs.shelf.Lists.{removed};
-ghost use Rattle.streets.specs.Calls.{longest, opens, closes};
+ghost use Rattle.streets.specs.Calls.{limiting, longest, opens, closes};
 ghost use Rattle.streets.specs.Meaning.{as-street};
-ghost use Rattle.town.specs.Layout.{limiting, limits-in, streets-in, words};
+ghost use Rattle.town.specs.Layout.{limits-in, streets-in, words};
 ghost use Rattle.town.specs.Town.{Proper, Front, Town, Sound};
 ghost use Rattle.town.specs.Meaning.{as-limits, answered};
 ghost use Rattle.town.specs.Changes.{Opened, Called};
@@ -103,7 +103,7 @@ fn add(town: &mut [u32], s: Street)
     write_lists(town);
 }
 
-// The i-th street goes, and those after it have each one number less, but for the corners' lists.
+// Without the i-th street, and the later ones down by one; the corners' lists are not yet written.
 fn take_out(town: &mut [u32], i: u16)
     requires holds { ⌜ Sound (now town) ⌝ }
     requires there { ⌜ i < length (streets-in (now town)) ⌝ }
@@ -140,7 +140,7 @@ pub fn open_street(memory: &mut [u32], one: u32, other: u32, long: u32) -> Resul
     let Some(i) = next_number(memory) else {
         return Err(Refusal::Full);
     };
-    let n = layout::size(memory);
+    let n = layout::words(memory);
     add(&mut memory[0..n], Street::new(one, other, long));
     Ok(i)
 }
@@ -165,7 +165,7 @@ pub fn close_street(memory: &mut [u32], i: u32) -> Result<u16, Refusal>
     let Some(i) = street_number(memory, i) else {
         return Err(Refusal::NotThere);
     };
-    let n = layout::size(memory);
+    let n = layout::words(memory);
     remove(&mut memory[0..n], i);
     Ok(i)
 }

@@ -7,9 +7,10 @@ ghost use lib.ListN.{length, set, take, drop};
 ghost use Rattle.std.specs.Options.{mapped};
 ghost use Rattle.std.specs.declared.option.Option.the-variants.{Some, None};
 ghost use Rattle.streets.specs.Streets.{street};
+ghost use Rattle.streets.specs.Calls.{limiting};
 ghost use Rattle.streets.specs.Meaning.{as-street};
 ghost use Rattle.town.specs.Corners.{streets-at};
-ghost use Rattle.town.specs.Layout.{corner-words, count-at, head-words, limiting, word, street-words, limits-in, streets-in, street-from, starts-from, lists-from, words, budget};
+ghost use Rattle.town.specs.Layout.{corner-words, count-at, head-words, word, street-words, limits-in, streets-in, street-from, starts-from, lists-from, words, budget};
 ghost use Rattle.town.specs.Town.{Front, Ready, Sound};
 ghost use Rattle.town.specs.Meaning.{as-limits};
 ghost use Rattle.town.specs.Changes.{in-range};
@@ -23,7 +24,7 @@ const MOST_STREETS: u32 = 1024;
 // The head: the limits, and the number of streets.
 const CORNERS: usize = 0;
 
-const STREETS: usize = 1;
+const LIMIT: usize = 1;
 
 const COUNT: usize = 2;
 
@@ -84,7 +85,7 @@ pub fn put_head(memory: &mut [u32], limits: Limits)
     ensures { λ _. ⌜ Front (as-limits limits) (now (memory .exit)) [] ⌝ }
 {
     memory[CORNERS] = limits.corners as u32;
-    memory[STREETS] = limits.streets as u32;
+    memory[LIMIT] = limits.streets as u32;
     memory[COUNT] = 0;
 }
 
@@ -94,19 +95,19 @@ pub fn limits(memory: &[u32]) -> Limits
 {
     Limits {
         corners: memory[CORNERS] as u16,
-        streets: memory[STREETS] as u16,
+        streets: memory[LIMIT] as u16,
     }
 }
 
 // How many words the town has.
-pub fn size(memory: &[u32]) -> usize
+pub fn words(memory: &[u32]) -> usize
     requires { ⌜ Ready (now memory) ⌝ }
     ensures { λ r. ⌜ r ≡ words (limits-in (now (memory .entry))) ⌝ }
 {
     limits(memory).words()
 }
 
-// Where it begins to say where each corner's list stops.
+// The place of the first word that says where a corner's list stops.
 pub fn stops_from(memory: &[u32]) -> usize
     requires { ⌜ Ready (now memory) ⌝ }
     ensures { λ r. ⌜ r ≡ suc (starts-from (limits-in (now (memory .entry)))) ⌝ }
@@ -114,7 +115,7 @@ pub fn stops_from(memory: &[u32]) -> usize
     limits(memory).starts_from() + 1
 }
 
-// How far behind that the lists begin.
+// How many words behind that place the lists begin.
 pub fn lists_behind(memory: &[u32]) -> usize
     requires { ⌜ Ready (now memory) ⌝ }
     ensures { λ r. ⌜ r ≡ corner-words * limits-in (now (memory .entry)) .corners ⌝ }
@@ -176,7 +177,7 @@ pub fn put_street(memory: &mut [u32], i: u16, s: Street)
     memory[at + 2] = s.long;
 }
 
-// The streets from i + 1 on, up to the n-th, each take the place of the one before.
+// The streets i + 1 to n - 1 each move down by one.
 pub fn move_down(memory: &mut [u32], i: u16, n: u16)
     requires there { ⌜ i < n ⌝ }
     requires within { ⌜ street-from n ≤ length (now memory) ⌝ }

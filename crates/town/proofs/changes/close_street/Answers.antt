@@ -12,9 +12,9 @@ pub remove-requires : need.remove-requires
 remove-requires c κs =
     let h = handed _ _ _ (c .in-Some .ensures tt) in
     let there : c .in-Some .i < length (streets-in (c .args .memory .now)) = omega (arith, h .1, ltb-true _ _ (h .0)) in
-    record { holds = own-sound _ _ (c .pre) (c .size-n .ensures); there = own-read _ _ (c .pre) (c .size-n .ensures) (λ _ ss. c .in-Some .i < length ss) there }
+    record { holds = own-sound _ _ (c .pre) (c .words-n .ensures); there = own-read _ _ (c .pre) (c .words-n .ensures) (λ _ ss. c .in-Some .i < length ss) there }
 
 pub returns : need.returns
 returns c =
-    let back = changed-back _ _ (c .pre) (c .size-n .ensures) _ (λ ss. removed ss (c .in-Some .i)) (c .remove .kept .town) (c .remove .ensures) in
+    let back = changed-back _ _ (c .pre) (c .words-n .ensures) _ (λ ss. removed ss (c .in-Some .i)) (c .remove .kept .town) (c .remove .ensures) in
     street-closed _ _ _ (c .in-Some .ensures tt) _ (back .0) (back .1)

@@ -1,4 +1,4 @@
-use Rattle.town.specs.Layout.{limiting}
+use Rattle.streets.specs.Calls.{limiting}
 use Rattle.town.proofs.Holding.{put-back, behind-stays}
 use Rattle.town.proofs.Calling.{room, town-opened}
 use Rattle.town.proofs.changes.open_town.Needs as need
