@@ -27,6 +27,19 @@ sum-same f g n e = omega (arith, sum-le f g n (λ i l. omega (arith, e i l)), su
 pub sum-none : (f : ℕ → ℕ) (n : ℕ) → ((i : ℕ) → i < n → f i ≡ 0) → sum-below f n ≡ 0
 sum-none f n e = omega (arith, sum-split f f f n (λ i l. omega (arith, e i l)))
 
+pub sum-next : (f : ℕ → ℕ) (k : ℕ) → sum-below f (k + 1) ≡ sum-below f k + f k
+unfolding sum-below
+sum-next f k = let e : k + 1 ≡ suc k = omega arith in omega (arith, ap (sum-below f) e)
+
+pub sum-upto : (f : ℕ → ℕ) (i n : ℕ) → i ≤ n → sum-below f i ≤ sum-below f n
+unfolding sum-below
+sum-upto f i zero h = let e : i ≡ 0 = omega arith in omega (arith, ap (sum-below f) e)
+sum-upto f i (suc n) h =
+    elim (cases-lt n i) [
+      | inl m ↦ let e : i ≡ suc n = omega arith in omega (arith, ap (sum-below f) e)
+      | inr m ↦ omega (arith, sum-upto f i n m)
+    ]
+
 pub sum-parity : (f g : ℕ → ℕ) (n : ℕ) → ((i : ℕ) → i < n → f i % 2 ≡ g i % 2) → sum-below f n % 2 ≡ sum-below g n % 2
 unfolding sum-below
 sum-parity f g zero e = refl

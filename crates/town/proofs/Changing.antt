@@ -20,7 +20,7 @@ use Rattle.town.proofs.Layouts.{front-from, street-is, street-moved, street-re
 abbrev pub written : List ℕ → ℕ → Street → ℕ → List ℕ
 written m p s n = set (set (set (set m p (s .one)) (p + 1) (s .other)) (p + 2) (s .long)) count-at n
 
-module _ (m : List ℕ) (p : ℕ) (s : Street) (n : ℕ) (there : p + 2 < length m) (behind : 2 < p) where
+module _ (m : List ℕ) (p : ℕ) (s : Street) (n : ℕ) (there : p + 2 < length m) (behind : count-at < p) where
   one : List ℕ
   one = set m p (s .one)
 
@@ -58,14 +58,14 @@ module _ (m : List ℕ) (p : ℕ) (s : Street) (n : ℕ) (there : p + 2 < length
 -- a town without streets
 pub head-written : (l : Limits) (m : List ℕ) → Good-limits l → words l ≤ length m → Front l (set (set (set m corners-at (l .corners)) limit-at (l .streets)) count-at 0) []
 head-written l m good room =
-    let one = set m 0 (l .corners) in
-    let two = set one 1 (l .streets) in
-    let a = length-set m 0 (l .corners) in
-    let b = length-set one 1 (l .streets) in
-    front-from l (set two 2 0) [] good (omega (arith, a, b, length-set two 2 0)) (
-      getD-set-other two 2 0 0 0 (λ e. omega arith) ∙ getD-set-other one 1 0 (l .streets) 0 (λ e. omega arith) ∙ getD-set-same m 0 (l .corners) 0 (omega arith),
-      getD-set-other two 2 1 0 0 (λ e. omega arith) ∙ getD-set-same one 1 (l .streets) 0 (omega (arith, a)),
-      getD-set-same two 2 0 0 (omega (arith, a, b)),
+    let one = set m corners-at (l .corners) in
+    let two = set one limit-at (l .streets) in
+    let a = length-set m corners-at (l .corners) in
+    let b = length-set one limit-at (l .streets) in
+    front-from l (set two count-at 0) [] good (omega (arith, a, b, length-set two count-at 0)) (
+      getD-set-other two count-at corners-at 0 0 (λ e. omega arith) ∙ getD-set-other one limit-at corners-at (l .streets) 0 (λ e. omega arith) ∙ getD-set-same m corners-at (l .corners) 0 (omega arith),
+      getD-set-other two count-at limit-at 0 0 (λ e. omega arith) ∙ getD-set-same one limit-at (l .streets) 0 (omega (arith, a)),
+      getD-set-same two count-at 0 0 (omega (arith, a, b)),
     )
     (λ i h. absurd (omega arith)) (omega arith) (λ i h. absurd (omega arith))
 

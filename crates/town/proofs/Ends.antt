@@ -10,26 +10,13 @@ use lib.ListN.{length, replicate}
 use Rattle.std.proofs.shelf.Lists.{length-append, length-replicate}
 use Rattle.std.specs.shelf.Lists.{countBy}
 use Rattle.std.proofs.shelf.Sums.{sumBy-cons, sumBy-append}
-use Rattle.std.proofs.shelf.Tests.{cases-lt, cases-eq}
+use Rattle.std.proofs.shelf.Tests.{cases-eq}
 use Rattle.std.proofs.shelf.Ways.{tells}
 use Rattle.streets.specs.Streets.{Street, street, mark, ends, ends-at}
 use Rattle.streets.specs.Counts.{sum-below, weigh}
-use Rattle.streets.proofs.Sums.{sum-same, weigh-ones}
+use Rattle.streets.proofs.Sums.{sum-same, sum-next, sum-upto, weigh-ones}
 use Rattle.town.specs.Corners.{at-below, streets-at, ends-before}
 use Rattle.town.specs.Laws.{Each-end}
-
-pub sum-upto : (f : ℕ → ℕ) (i n : ℕ) → i ≤ n → sum-below f i ≤ sum-below f n
-unfolding sum-below
-sum-upto f i zero h = let e : i ≡ 0 = omega arith in omega (arith, ap (sum-below f) e)
-sum-upto f i (suc n) h =
-    elim (cases-lt n i) [
-      | inl m ↦ let e : i ≡ suc n = omega arith in omega (arith, ap (sum-below f) e)
-      | inr m ↦ omega (arith, sum-upto f i n m)
-    ]
-
-pub sum-next : (f : ℕ → ℕ) (k : ℕ) → sum-below f (k + 1) ≡ sum-below f k + f k
-unfolding sum-below
-sum-next f k = let e : k + 1 ≡ suc k = omega arith in omega (arith, ap (sum-below f) e)
 
 -- the ends at c of the streets below i
 abbrev pub ends-below : List Street → ℕ → ℕ → ℕ

@@ -65,46 +65,46 @@ module _ (l : Limits) (m m′ : List ℕ) (ss : List Street) (t : Town l m ss) (
             };
       }
 
--- the town's words, as `&mut m[0..n]` hands them on, and as they come back
+-- the town's words, as `&mut m[0..n]` hands them on, and m when ys has come back
+abbrev pub own : ℕ → List ℕ → List ℕ
+own n m = take (n - 0) (drop 0 m)
+
+abbrev pub owned : ℕ → List ℕ → List ℕ → List ℕ
+owned n m ys = putMid 0 (n - 0) m ys
+
 module _ (l : Limits) (m : List ℕ) (n : ℕ) (all : n ≡ words l) (room : words l ≤ length m) where
-  abbrev pub cut : List ℕ
-  cut = take (n - 0) (drop 0 m)
+  own-is : own n m ≡ take n m
+  own-is = let e : n - 0 ≡ n = omega arith in ap (λ (x : ℕ). take x m) e
 
-  cut-is : cut ≡ take n m
-  cut-is = let e : n - 0 ≡ n = omega arith in ap (λ (x : ℕ). take x m) e
+  length-own : length (own n m) ≡ n
+  length-own = ap length own-is ∙ length-take-le n m (omega arith)
 
-  length-cut : length cut ≡ n
-  length-cut = ap length cut-is ∙ length-take-le n m (omega arith)
+  pub first-words : (ss : List Street) → Town l m ss → Town l (own n m) ss
+  first-words ss t = same-town l m (own n m) ss t (omega (arith, length-own)) (ap (take (words l)) own-is ∙ take-take (words l) n m (omega arith))
 
-  pub cut-town : (ss : List Street) → Town l m ss → Town l cut ss
-  cut-town ss t = same-town l m cut ss t (omega (arith, length-cut)) (ap (take (words l)) cut-is ∙ take-take (words l) n m (omega arith))
-
-  pub put-back : (ys : List ℕ) (ss : List Street) → length ys ≡ length cut → Town l ys ss → Town l (putMid 0 (n - 0) m ys) ss
+  pub put-back : (ys : List ℕ) (ss : List Street) → length ys ≡ length (own n m) → Town l ys ss → Town l (owned n m ys) ss
   put-back ys ss kept t =
-      let long : length ys ≡ n = kept ∙ length-cut in
-      same-town l ys (putMid 0 (n - 0) m ys) ss t (omega (arith, length-append ys (drop (n - 0) m))) (take-append-le (words l) ys (drop (n - 0) m) (omega arith))
+      let long : length ys ≡ n = kept ∙ length-own in
+      same-town l ys (owned n m ys) ss t (omega (arith, length-append ys (drop (n - 0) m))) (take-append-le (words l) ys (drop (n - 0) m) (omega arith))
 
-  pub behind-stays : (ys : List ℕ) → length ys ≡ length cut → drop (words l) (putMid 0 (n - 0) m ys) ≡ drop (words l) m
-  behind-stays ys kept = drop-putMid 0 (n - 0) m ys (words l) (omega arith) (omega arith) (kept ∙ length-cut ∙ omega arith)
+  pub behind-stays : (ys : List ℕ) → length ys ≡ length (own n m) → drop (words l) (owned n m ys) ≡ drop (words l) m
+  behind-stays ys kept = drop-putMid 0 (n - 0) m ys (words l) (omega arith) (omega arith) (kept ∙ length-own ∙ omega arith)
 
 pub sound : (l : Limits) (m : List ℕ) (ss : List Street) → Town l m ss → Sound m
 sound l m ss t = as-read l m ss (t .front) (λ x y. Town x m y) t
 
 -- the same of a sound memory: what is handed on is read as the whole is
 module _ (m : List ℕ) (n : ℕ) (t : Sound m) (all : n ≡ words (limits-in m)) where
-  abbrev pub own : List ℕ
-  own = take (n - 0) (drop 0 m)
+  own-town : Town (limits-in m) (own n m) (streets-in m)
+  own-town = first-words (limits-in m) m n all (t .front .room) (streets-in m) t
 
-  own-town : Town (limits-in m) own (streets-in m)
-  own-town = cut-town (limits-in m) m n all (t .front .room) (streets-in m) t
+  pub own-sound : Sound (own n m)
+  own-sound = sound (limits-in m) (own n m) (streets-in m) own-town
 
-  pub own-sound : Sound own
-  own-sound = sound (limits-in m) own (streets-in m) own-town
+  pub own-read : (P : Limits → List Street → Type 0) → P (limits-in m) (streets-in m) → P (limits-in (own n m)) (streets-in (own n m))
+  own-read = as-read (limits-in m) (own n m) (streets-in m) (own-town .front)
 
-  pub own-read : (P : Limits → List Street → Type 0) → P (limits-in m) (streets-in m) → P (limits-in own) (streets-in own)
-  own-read = as-read (limits-in m) own (streets-in m) (own-town .front)
-
-  pub changed-back : (ys : List ℕ) (f : List Street → List Street) → length ys ≡ length own → Town (limits-in own) ys (f (streets-in own)) → Town (limits-in m) (putMid 0 (n - 0) m ys) (f (streets-in m)) × (drop (words (limits-in m)) (putMid 0 (n - 0) m ys) ≡ drop (words (limits-in m)) m)
+  pub changed-back : (ys : List ℕ) (f : List Street → List Street) → length ys ≡ length (own n m) → Town (limits-in (own n m)) ys (f (streets-in (own n m))) → Town (limits-in m) (owned n m ys) (f (streets-in m)) × (drop (words (limits-in m)) (owned n m ys) ≡ drop (words (limits-in m)) m)
   changed-back ys f kept u =
-      let known = as-known (limits-in m) own (streets-in m) (own-town .front) (λ x y. Town x ys (f y)) u in
+      let known = as-known (limits-in m) (own n m) (streets-in m) (own-town .front) (λ x y. Town x ys (f y)) u in
       (put-back (limits-in m) m n all (t .front .room) ys (f (streets-in m)) kept known, behind-stays (limits-in m) m n all (t .front .room) ys kept)

@@ -1,22 +1,22 @@
 -- What the words of the head and of a street say.
 use mathlib.Core.Path.{_≡_, refl, sym, ap, subst, _∙_}
+use mathlib.Core.Bool.{true}
 use mathlib.Core.List.{List, map}
 use Prim.Native.Nat.{ℕ, _+_, _*_, _≤_, _<_}
 use native.Mathlib.Omega.{arith}
 use lib.ListN.{length}
 use Rattle.std.specs.Iters.{counting}
 use Rattle.std.proofs.shelf.Counted.{length-map-counting, getD-map-counting, fill-by-all}
-use mathlib.Core.Bool.{true}
 use Rattle.streets.specs.Streets.{Street, joining, street, ends-at}
+use Rattle.streets.specs.Calls.{Limits, limiting}
 use Rattle.streets.specs.Promise.{Good-limits}
 use Rattle.streets.specs.Theorems.{in-town}
 use Rattle.streets.proofs.Tests.{in-town-from}
 use Rattle.streets.proofs.Degrees.{two-ends}
 use Rattle.town.specs.Corners.{ends-before}
-use Rattle.town.proofs.Ends.{before-upto}
-use Rattle.streets.specs.Calls.{Limits, limiting}
 use Rattle.town.specs.Layout.{corners-at, limit-at, count-at, word, limits-in, count-in, street-from, street-in, streets-in, words}
 use Rattle.town.specs.Town.{Proper, Front, Town}
+use Rattle.town.proofs.Ends.{before-upto}
 
 -- the limits, from their words
 limits-read : (l : Limits) (m : List ℕ) → word m corners-at ≡ l .corners → word m limit-at ≡ l .streets → limits-in m ≡ l

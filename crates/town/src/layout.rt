@@ -1,4 +1,4 @@
-// Where memory has what. Every other module goes by these functions.
+// Where memory has what: head, streets, and where the corners' lists stand. The lists are written by `lists`.
 ghost use mathlib.Core.Path.{_≡_};
 ghost use mathlib.Core.Bool.{cond};
 ghost use mathlib.Core.List.{[]};
