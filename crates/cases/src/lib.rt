@@ -1,4 +1,6 @@
 // Tables of cases for the crates below, run as tests.
+#![tactic(auto)]
+
 #[cfg(test)]
 mod answers;
 #[cfg(test)]

@@ -1,4 +1,6 @@
 // Reads a file of calls, answers them in turn, and prints a line for each.
+#![tactic(auto)]
+
 ghost use Rattle.town.specs.Town.{Sound};
 
 mod line;

@@ -1,4 +1,6 @@
 // What can be reached from a corner, and which corners are odd.
+#![tactic(auto)]
+
 mod parity;
 mod search;
 

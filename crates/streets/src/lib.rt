@@ -1,4 +1,6 @@
 // Streets and legs by value, as every layer above holds them, and the theorems about rounds.
+#![tactic(auto)]
+
 mod code;
 mod leg;
 mod street;

@@ -1,4 +1,6 @@
 // Streets and corners in memory that the caller lends. Only this crate knows the layout.
+#![tactic(auto)]
+
 mod changes;
 pub mod laws;
 mod layout;

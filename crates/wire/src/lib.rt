@@ -1,4 +1,6 @@
 // Calls and answers as bytes.
+#![tactic(auto)]
+
 mod answer;
 mod call;
 pub mod laws;
