@@ -8,7 +8,7 @@ use Rattle.town.proofs.changes.open_street.Goals as goal
 pub add-requires : goal.add-requires
 add-requires c =
     let s = as_street c.new.result in
-    let can = can_add _ c.args.one c.args.other c.args.long _ _ _ _ _ c.in-Some.ensures c.in-Some-corner.ensures c.in-Some-proper-length.ensures c.in-Some-next-number.ensures c.new.ensures in
+    let can = can_add _ c.args.one c.args.other c.args.long _ _ _ _ _ c.in-Some.ensures c.in-Some-corner.ensures c.in-Some-proper_length.ensures c.in-Some-next_number.ensures c.new.ensures in
     record {
       holds = own_sound _ _ c.requires c.words-n.ensures;
       free = own_read _ _ c.requires c.words-n.ensures (λ l ss. length ss < l.streets) can.0;
@@ -19,4 +19,4 @@ pub returns : goal.returns
 returns c =
     let s = as_street c.new.result in
     let back = changed_back _ _ c.requires c.words-n.ensures _ (λ ss. ss ++ s ∷ []) c.add.auto.town c.add.ensures in
-    street_opened _ _ _ _ _ _ _ _ _ c.in-Some.ensures c.in-Some-corner.ensures c.in-Some-proper-length.ensures c.in-Some-next-number.ensures c.new.ensures _ back.0 back.1
+    street_opened _ _ _ _ _ _ _ _ _ c.in-Some.ensures c.in-Some-corner.ensures c.in-Some-proper_length.ensures c.in-Some-next_number.ensures c.new.ensures _ back.0 back.1

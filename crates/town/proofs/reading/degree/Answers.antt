@@ -4,8 +4,8 @@ use Rattle.town.proofs.Ends.{length-streets_at}
 use Rattle.town.proofs.Layouts.{short_degree}
 use Rattle.town.proofs.reading.degree.Goals as goal
 
-pub overflow-cast-result : goal.overflow-cast-result
-overflow-cast-result c =
+pub overflow_cast-result : goal.overflow_cast-result
+overflow_cast-result c =
     let ss = streets_in c.args.memory.now in
     omega (arith, ap length c.streets_at.ensures, length-streets_at ss c.args.c, short_degree _ _ ss c.requires.front c.args.c)
 

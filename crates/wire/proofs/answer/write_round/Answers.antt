@@ -9,8 +9,8 @@ use Rattle.wire.proofs.Pairs.{short_legs}
 use Rattle.wire.proofs.Rounds.{round_written, length_round, size_counted, legs_handed_on}
 use Rattle.wire.proofs.answer.write_round.Goals as goal
 
-pub returns-in-default : goal.returns-in-default
-returns-in-default c =
+pub returns-in_default : goal.returns-in_default
+returns-in_default c =
     let ls = map as_leg c.args.legs.now in
     let many : 4294967296 ≤ length ls = simp length-map (search rules) in
     unwritten _ (answer_row (as_round ls c.args.low)) c.args.bytes.now (grind (arith, nat_tests))
@@ -29,5 +29,5 @@ returns c =
     let row = answer_row (as_round ls c.args.low) in
     let n : c.in-Ok.count ≡ length ls = simp length-map (search rules) in
     let size : c.size.result ≡ length row = size_counted ls c.args.low n c.counting-answer.ensures c.size.ensures in
-    let handed = legs_handed_on as_leg c.args.legs.now c.args.bytes.now c.write-legs.new.part c.write-legs.result (omega (arith, length_round ls c.args.low, length-map c.args.legs.now as_leg)) c.write-legs.ensures.fits c.write-legs.ensures.after in
-    round_written _ ls c.args.low (short_legs c.args.legs.now) n c.counting-answer.ensures (grind (arith, nat_tests)) (omega arith) handed c.write-answer.ensures
+    let handed = legs_handed_on as_leg c.args.legs.now c.args.bytes.now c.write_legs.new.part c.write_legs.result (omega (arith, length_round ls c.args.low, length-map c.args.legs.now as_leg)) c.write_legs.ensures.fits c.write_legs.ensures.after in
+    round_written _ ls c.args.low (short_legs c.args.legs.now) n c.counting-answer.ensures (grind (arith, nat_tests)) (omega arith) handed c.write_answer.ensures

@@ -10,7 +10,7 @@ returns-in-Open c =
     let b = c.args.bytes.now in
     let one = word c.in-Open.one in
     let other = word c.in-Open.other in
-    let first = put_then b (0 ∷ []) one 1 (put_first b 0 (omega arith)) c.put-word.ensures refl in
-    let second = put_then b (0 ∷ one) other 5 first c.put-word-in-Open.ensures refl in
-    let third = put_then b (0 ∷ (one ++ other)) (word c.in-Open.long) 9 second c.put-word-in-Open-2.ensures refl in
+    let first = put_then b (0 ∷ []) one 1 (put_first b 0 (omega arith)) c.put_word.ensures refl in
+    let second = put_then b (0 ∷ one) other 5 first c.put_word-in-Open.ensures refl in
+    let third = put_then b (0 ∷ (one ++ other)) (word c.in-Open.long) 9 second c.put_word-in-Open-2.ensures refl in
     rw c.in-Open.is (wholly _ _ b _ c.size-size.result (le-leb 13 _ (omega arith)) size third)

@@ -13,8 +13,8 @@ loop-k-init c = refl
 
 pub loop-k-preserved : goal.loop-k-preserved
 loop-k-preserved c =
-    let t : c.write-leg.result ≡ true = c.write-leg.ensures.fits ∙ le-leb (2 * c.loop-k.k + 2) (length c.loop-k.part) (omega arith) in
-    legs_more as_leg c.args.legs.now c.loop-k.k c.index-legs-k.result c.args.part.now (omega arith) c.index-legs-k.is c.loop-k.invariant (rw t at c.write-leg.ensures.after)
+    let t : c.write_leg.result ≡ true = c.write_leg.ensures.fits ∙ le-leb (2 * c.loop-k.k + 2) (length c.loop-k.part) (omega arith) in
+    legs_more as_leg c.args.legs.now c.loop-k.k c.index-legs-k.result c.args.part.now (omega arith) c.index-legs-k.is c.loop-k.invariant (rw t at c.write_leg.ensures.after)
 
 pub returns : goal.returns
 returns c =
