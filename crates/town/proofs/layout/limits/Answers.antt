@@ -11,7 +11,7 @@ overflow_cast-result-2 c = omega (arith, (limit_short _ _ _ c.requires).1)
 
 pub invariant_of-result : goal.invariant_of-result
 unfolding limits_in
-invariant_of-result c = let g = c.requires.good in (g.some_corner, (g.few_corners, (g.few_streets, tt)))
+invariant_of-result c = let g = c.requires.good in record { some = g.some_corner; few = g.few_corners; short = g.few_streets }
 
 pub returns : goal.returns
 unfolding limits_in
