@@ -56,7 +56,7 @@ fn print_lines(rt: &HostRuntime, memory: &mut [u32], calls: &[u8]) -> io::Result
 
 fn serve(rt: &HostRuntime, memory: &mut [u32], calls: &[u8]) -> anyhow::Result<()> {
     if let Err(refusal) = open_town(memory, CORNERS, STREETS) {
-        return Err(refusal_line(rt.alloc(), refusal)?.into());
+        return Err(anyhow!(refusal_line(rt.alloc(), refusal)?));
     }
     print_lines(rt, memory, calls)?;
     Ok(())
