@@ -1,13 +1,13 @@
 // Answers as rows of bytes: every kind, legs both ways, rows that are too short, too long or unknown.
 ghost use Rattle.std.specs.Prelude.{◌<◌};
 
-use std::process::Abort;
+use super::check::{check, check_eq};
 use std::test::Fail;
 use streets::Leg;
 use wire::{Answer, LEGS_AT, read_answer, read_leg, write_answer, write_round};
 
 #[test]
-fn good_rows(rt: HostRuntime) {
+fn good_rows(rt: HostRuntime) -> Result<(), Fail> {
     let cases: [(&[u8], Answer); 7] = [
         (
             &[0, 4, 0, 0, 0, 2, 0, 0, 0],
@@ -31,21 +31,22 @@ fn good_rows(rt: HostRuntime) {
     ];
     for (row, answer) in cases {
         assert_eq!(rt; read_answer(row), Ok(answer));
-        written_around(&rt, row, answer, &mut [9u8; 16]);
+        written_around(row, answer, &mut [9u8; 16])?;
     }
+    Ok(())
 }
 
 // The answer is written around the legs that stand in the row, and nothing behind it.
-fn written_around(rt: &impl Abort, row: &[u8], answer: Answer, bytes: &mut [u8]) {
+fn written_around(row: &[u8], answer: Answer, bytes: &mut [u8]) -> Result<(), Fail> {
     let n = row.len();
-    assert!(rt; 0 < n && n < bytes.len());
-    assert_eq!(rt; write_answer(answer, &mut bytes[0..n - 1]), None);
-    assert_eq!(rt; bytes[0], 9);
+    check(0 < n && n < bytes.len())?;
+    check_eq(write_answer(answer, &mut bytes[0..n - 1]), None)?;
+    check_eq(bytes[0], 9)?;
     bytes[1..n].copy_from_slice(&row[1..n]);
-    assert_eq!(rt; write_answer(answer, bytes), Some(n));
-    assert_eq!(rt; &bytes[0..n], row);
-    assert_eq!(rt; bytes[n], 9);
-    assert_eq!(rt; read_answer(&bytes[0..n + 1]), Err(n));
+    check_eq(write_answer(answer, bytes), Some(n))?;
+    check(&bytes[0..n] == row)?;
+    check_eq(bytes[n], 9)?;
+    check_eq(read_answer(&bytes[0..n + 1]), Err(n))
 }
 
 #[test]
@@ -100,7 +101,7 @@ fn legs_both_ways(rt: HostRuntime) -> Result<(), Fail> {
     for k in 0..9 {
         assert_eq!(rt;
             &bytes[LEGS_AT + 2 * k..LEGS_AT + 2 * k + 2],
-            &[codes[k], 0]
+            [codes[k], 0].as_slice()
         );
         let Some(read) = read_leg(&bytes[LEGS_AT..23], k) else {
             return Err(Fail::new("no leg"));

@@ -6,4 +6,6 @@ mod answers;
 #[cfg(test)]
 mod calls;
 #[cfg(test)]
+mod check;
+#[cfg(test)]
 mod towns;

@@ -4,16 +4,16 @@ use Rattle.town.specs.Layout.{limits_in}
 use Rattle.town.proofs.Layouts.{ends_in_town}
 use Rattle.reach.proofs.Listing.{listed_none, listed_odd, listed_even, listed_all}
 use Rattle.reach.proofs.parity.odd_corners.Goals as goal
-use Rattle.reach.proofs.parity.odd_corners.Goals.{then-is-odd, else-is-odd}
+use Rattle.reach.proofs.parity.odd_corners.Goals.{then-is_odd, else-is_odd}
 
 pub loop-c-init : goal.loop-c-init
 loop-c-init c = listed_none _ _
 
 pub loop-c-preserved : goal.loop-c-preserved
 loop-c-preserved c =
-    elim c.if-is-odd.branch [
-      | then-is-odd w ↦ rw (w.found-is, w.list-is, w.put.ensures) (listed_odd _ _ _ _ _ c.loop-c.invariant w.if-is-odd.ensures)
-      | else-is-odd w ↦ rw (w.found-is, w.list-is) (listed_even _ _ _ _ _ c.loop-c.invariant w.if-is-odd.ensures)
+    elim c.if-is_odd.branch [
+      | then-is_odd w ↦ rw (w.found-is, w.list-is, w.put.ensures) (listed_odd _ _ _ _ _ c.loop-c.invariant w.if-is_odd.ensures)
+      | else-is_odd w ↦ rw (w.found-is, w.list-is) (listed_even _ _ _ _ _ c.loop-c.invariant w.if-is_odd.ensures)
     ]
 
 pub returns : goal.returns
