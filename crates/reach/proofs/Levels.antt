@@ -1,17 +1,22 @@
 -- A search that is over: its levels are those of the walks there are.
-use Rattle.std.proofs.Common.{◌≡◌, ℕ, zero, suc, ◌+◌, ◌-◌, ◌<◌, ◌≤◌, Bool, true, false, cond, ◌↔◌, List, [], ◌∷◌, ◌++◌, length, sym, refl, ap, ◌∙◌, subst, arith}
+use Rattle.std.proofs.Common.{◌≡◌, ℕ, zero, suc, ◌+◌, ◌-◌, ◌<◌, ◌≤◌, Bool, true, false, cond, ◌↔◌, List, [], ◌∷◌, ◌++◌, length, refl, ap, subst, arith}
 use Rattle.std.proofs.lemmas.List.{length-append}
 use Rattle.streets.specs.Streets.{Street, street, Leg, starts, stops, may_go, goes}
 use Rattle.streets.specs.Theorems.{Joined}
 use Rattle.streets.proofs.Legs.{leg_there}
 use Rattle.streets.proofs.Walks.{step, stands, stay, goes-append, one_leg}
 use Rattle.streets.proofs.Rounds.{a_round}
-use Rattle.reach.specs.Reach.{Level, First, AllReached}
+use Rattle.streets.specs.Calls.{Limits}
+use Rattle.town.specs.Town.{Front}
+use Rattle.reach.specs.Reach.{Level, AllReached}
 use Rattle.reach.specs.Searching.{Closed, Search}
 
 -- all streets end below n
 abbrev pub Inside : ℕ → List Street → Type 0
 Inside n ss = (i : ℕ) → i < length ss → ((street ss i).one < n) × ((street ss i).other < n)
+
+pub inside_town : (l : Limits) (m : List ℕ) (ss : List Street) → Front l m ss → Inside l.corners ss
+inside_town l m ss f i h = let p = f.proper i h in (p.one_there, p.other_there)
 
 module _ (ss : List Street) (n : ℕ) (inside : Inside n ss) where
   either : (b : Bool) (x y : ℕ) → x < n → y < n → cond b x y < n

@@ -1,5 +1,5 @@
 -- Walks reversed, in towns whose streets may be used both ways and are as long either way.
-use Rattle.std.proofs.Common.{◌≡◌, ℕ, ◌+◌, Bool, true, false, cond, not, List, [], ◌∷◌, ◌++◌, sym, refl, ◌∙◌, arith}
+use Rattle.std.proofs.Common.{◌≡◌, ℕ, Bool, true, false, cond, not, List, [], ◌∷◌, ◌++◌, sym, refl, ◌∙◌, arith}
 use Rattle.streets.specs.Streets.{Street, street, Leg, starts, stops, may_go, leg_long, goes, how_long}
 use Rattle.streets.specs.Pairs.{Way}
 use Rattle.streets.proofs.Legs.{leg_there, leg_may, leg_as_long}

@@ -1,5 +1,3 @@
-use Rattle.std.proofs.Common.{refl, ap}
-use Rattle.streets.specs.Calls.{odd, number}
 use Rattle.reach.proofs.Listing.{answered}
 use Rattle.reach.proofs.parity.odd.Goals as goal
 

@@ -1,4 +1,4 @@
-use Rattle.std.proofs.Common.{◌≡◌, ℕ, ap, ◌∙◌, arith}
+use Rattle.std.proofs.Common.{◌≡◌, ap, arith}
 use Rattle.streets.specs.Calls.{Limits}
 use Rattle.town.specs.Layout.{limits_in}
 use Rattle.town.proofs.Layouts.{ends_in_town}
