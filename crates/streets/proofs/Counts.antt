@@ -1,6 +1,6 @@
 -- How many legs a walk has and how long it is, if it uses no street more than twice.
 use Rattle.std.proofs.Common.{◌≡◌, ℕ, ◌*◌, ◌≤◌, true, List, [], ◌∷◌, length, refl, arith}
-use Rattle.std.specs.List.{AllByRecursion as All}
+use Rattle.std.specs.List.{AllByRecursion}
 use Rattle.streets.specs.Streets.{Street, Leg, goes, stops, how_long, times, total, all_long, AtMostTwice}
 use Rattle.streets.specs.Counts.{weigh}
 use Rattle.streets.proofs.Sums.{ones, weigh_le, weigh_twos}
@@ -12,7 +12,7 @@ total_ones [] = refl
 total_ones (s ∷ ss) = let r = total_ones ss in omega arith
 
 -- at most m for each street
-pub total_most : (f : Street → ℕ) (m : ℕ) (ss : List Street) → All (λ s. f s ≤ m) ss → total f ss ≤ length ss * m
+pub total_most : (f : Street → ℕ) (m : ℕ) (ss : List Street) → AllByRecursion (λ s. f s ≤ m) ss → total f ss ≤ length ss * m
 unfolding total
 total_most f m [] h = omega arith
 total_most f m (s ∷ ss) h = let r = total_most f m ss h.1 in omega (arith, h.0)
@@ -38,5 +38,5 @@ module _ (ss : List Street) where
     twice_long = omega (arith, by_counts ss c ls d walks, twice_weighs (λ s. s.long) ls twice)
 
     -- so two legs of the longest street for each street are enough
-    pub long_fits : (m : ℕ) → All (λ s. s.long ≤ m) ss → how_long ss ls ≤ 2 * (length ss * m)
+    pub long_fits : (m : ℕ) → AllByRecursion (λ s. s.long ≤ m) ss → how_long ss ls ≤ 2 * (length ss * m)
     long_fits m short = omega (arith, twice_long, total_most (λ s. s.long) m ss short)

@@ -1,6 +1,6 @@
 -- The exchange lemma: pairs, and one link more, made into pairs again at no higher cost.
 use Rattle.std.proofs.Common.{◌≡◌, ℕ, ◌+◌, ◌%◌, ◌<◌, ◌≤◌, min, List, [], ◌∷◌, ap, inl, inr, arith}
-use Rattle.std.specs.List.{AllByRecursion as All}
+use Rattle.std.specs.List.{AllByRecursion}
 use Rattle.std.proofs.lemmas.Bool.{cases_eq, cases_lt}
 use Rattle.std.proofs.lemmas.Bool.Decides.{nat_tests}
 use Rattle.streets.specs.Streets.{Street, joining, mark, ends, total, ends_at, all_long}
@@ -61,7 +61,7 @@ module _ (W : Links) (law : Linking W) where
 
   -- A link is pushed down a list of pairs that have each corner at most once
   pub exchange : (ps : List Street) →
-      All (λ p. W p.one p.other p.long) ps →
+      AllByRecursion (λ p. W p.one p.other p.long) ps →
       ((k : ℕ) → ends_at ps k ≤ 1) →
       (a b n : ℕ) → W a b n → Paired W (λ k. ends_at ps k + (mark a k + mark b k)) (all_long ps + n)
   unfolding total

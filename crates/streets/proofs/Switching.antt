@@ -1,6 +1,6 @@
 -- Counts of one or two for each street, switched along walks.
 use Rattle.std.proofs.Common.{◌≡◌, ℕ, ◌+◌, ◌-◌, ◌%◌, ◌<◌, true, cond, eqb, ◌⊎◌, List, [], ◌∷◌, length, sym, refl, ap, inl, inr, arith}
-use Rattle.std.specs.List.{AllByRecursion as All}
+use Rattle.std.specs.List.{AllByRecursion}
 use Rattle.std.proofs.lemmas.Bool.{cases_eq, cases_lt}
 use Rattle.std.proofs.lemmas.Bool.Decides.{nat_tests}
 use Rattle.streets.specs.Streets.{Street, street, Leg, may_go, leg_long, starts, stops, goes, how_long, mark, ends, total, ends_at, all_long}
@@ -76,7 +76,7 @@ module _ (ss : List Street) where
   -- along ways between the corners of pairs
   pub switched_pairs : (t : ℕ → ℕ) (ps : List Street) →
       OnceOrTwice ss t →
-      All (λ p. Way ss p.one p.other p.long) ps →
+      AllByRecursion (λ p. Way ss p.one p.other p.long) ps →
       (u : ℕ → ℕ) × Switched ss t (ends_at ps) (all_long ps) u
   unfolding total
   switched_pairs t [] once ws = (t, unswitched t once (ends_at []) (λ k. refl))

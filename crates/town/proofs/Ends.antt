@@ -1,7 +1,7 @@
 -- How many ends there are, at a corner and before it, and how often a street is in a corner's list.
 use Rattle.std.proofs.Common.{◌≡◌, ℕ, zero, suc, ◌+◌, ◌*◌, ◌<◌, ◌≤◌, cond, eqb, ltb, List, length, get_or, replicate, count_by, refl, ap, ◌∙◌, inl, inr, arith}
 use Rattle.std.proofs.lemmas.List.{length-append, length-replicate}
-use Rattle.std.specs.List.{ContainsAt as Has, AllByRecursion as All}
+use Rattle.std.specs.List.{ContainsAt as Has, AllByRecursion}
 use Rattle.std.proofs.lemmas.List.Sums.{sum_by-cons, sum_by-append}
 use Rattle.std.proofs.ByRecursion.{All-append, All-get_or, All-weaker, has_append_left, has_append_right}
 use Rattle.std.proofs.lemmas.Bool.{cases_eq, cases_lt}
@@ -59,7 +59,7 @@ module _ (ss : List Street) where
   pub length-streets_at : (c : ℕ) → length (streets_at ss c) ≡ ends_at ss c
   length-streets_at c = length_at_below (length ss) c ∙ ends_all c
 
-all_copies : (P : ℕ → Type 0) (n j : ℕ) → (0 < n → P j) → All P (replicate n j)
+all_copies : (P : ℕ → Type 0) (n j : ℕ) → (0 < n → P j) → AllByRecursion P (replicate n j)
 all_copies P zero j p = tt
 all_copies P (suc n) j p = (p (omega arith), all_copies P n j (λ _. p (omega arith)))
 
@@ -68,7 +68,7 @@ has_copies zero j h = absurd (omega arith)
 has_copies (suc n) j h = (0, omega arith, λ d. refl)
 
 module _ (ss : List Street) (c : ℕ) where
-  all_below : (n : ℕ) → All (λ i. (i < n) × (0 < ends (street ss i) c)) (at_below ss n c)
+  all_below : (n : ℕ) → AllByRecursion (λ i. (i < n) × (0 < ends (street ss i) c)) (at_below ss n c)
   unfolding at_below
   all_below zero = tt
   all_below (suc n) =

@@ -1,6 +1,6 @@
 -- Calls and answers as rows of bytes.
 use Rattle.std.specs.Prelude.{ℕ, zero, suc, ◌+◌, ◌*◌, ◌/◌, ◌%◌, ◌<◌, min, cond, List, [], ◌∷◌, ◌++◌, length, take, drop, Ok, Err, Result, ◌==◌}
-use Rattle.std.specs.List.{AllByRecursion as All}
+use Rattle.std.specs.List.{AllByRecursion}
 use Rattle.streets.specs.Streets.{Leg}
 use Rattle.streets.specs.Calls.{Call, opens, closes, odd, round, garbled, Answer, refused, number, shortest, some_round, never}
 use Rattle.wire.specs.Rows.{word, word_at, pair_at}
@@ -45,7 +45,7 @@ leg_code l = 2 * l.along + cond l.back 1 0
 
 -- the legs that two bytes can hold
 abbrev pub Short : List Leg → Type 0
-Short ls = All (λ l. l.along < 32768) ls
+Short ls = AllByRecursion (λ l. l.along < 32768) ls
 
 abbrev pub leg_row : Leg → List ℕ
 leg_row l = leg_code l % 256 ∷ leg_code l / 256 % 256 ∷ []
