@@ -54,8 +54,7 @@ fn words(rt: HostRuntime) -> Result<(), Fail> {
     let sizes: [(u32, u32, usize); 4] = [(1, 0, 5), (3, 2, 17), (32, 64, 356), (256, 1_024, 5_380)];
     for (corners, streets, words) in sizes {
         let Some(limits) = Limits::new(corners, streets) else {
-            assert!(rt; false);
-            return Ok(());
+            return check(false);
         };
         assert_eq!(rt; limits.words(), words);
     }

@@ -1,5 +1,5 @@
 // Towns opened, and streets opened and closed. Each call takes time linear in corners and streets.
-ghost use Rattle.std.specs.Prelude.{◌≡◌, ◌<◌, ◌≤◌, ◌&&◌, leb, [], ◌∷◌, ◌++◌, length, if◌then◌else◌, Some, None, nat_le, nat_lt};
+ghost use Rattle.std.specs.Prelude.{◌≡◌, ◌<◌, ◌≤◌, ◌&&◌, [], ◌∷◌, ◌++◌, length, if◌then◌else◌, Some, None, nat_le, nat_lt};
 ghost use Rattle.std.specs.Option.{option_map};
 ghost use Rattle.std.specs.List.{remove};
 ghost use Rattle.streets.specs.Calls.{limiting, longest, opens, closes};
@@ -20,7 +20,7 @@ const LONGEST: u32 = 1_000_000;
 
 // The limits, if memory of this size suffices for them.
 fn fitting(limits: Limits, size: usize) -> Option<Limits>
-    ensures { option_map as_limits result ≡ (if leb (words (as_limits limits)) size then Some (as_limits limits) else None) }
+    ensures { option_map as_limits result ≡ (if nat_le (words (as_limits limits)) size then Some (as_limits limits) else None) }
 {
     if size < limits.words() {
         None
@@ -54,7 +54,7 @@ pub fn open_town(memory: &mut [u32], corners: u32, streets: u32) -> Result<(), R
 
 // The length, if a street may have it.
 fn proper_length(long: u32) -> Option<u32>
-    ensures { result ≡ (if leb 1 long && nat_le long longest then Some long else None) }
+    ensures { result ≡ (if nat_le 1 long && nat_le long longest then Some long else None) }
 {
     if long < 1 || long > LONGEST {
         None

@@ -1,5 +1,5 @@
 // Legs of two bytes, in the part of an answer that is theirs.
-ghost use Rattle.std.specs.Prelude.{◌≡◌, ◌+◌, ◌*◌, leb, map, length, if◌then◌else◌, Some, None, nat_le};
+ghost use Rattle.std.specs.Prelude.{◌≡◌, ◌+◌, ◌*◌, map, length, if◌then◌else◌, Some, None, nat_le};
 ghost use Rattle.std.specs.Option.{option_map};
 ghost use Rattle.streets.specs.Meaning.{as_leg};
 ghost use Rattle.wire.specs.Rows.{put};
@@ -10,7 +10,7 @@ use streets::Leg;
 
 // The k-th leg, if the part has so many.
 pub fn read_leg(part: &[u8], k: usize) -> Option<Leg>
-    ensures { option_map as_leg result ≡ (if leb (2 * k + 2) (length part.now) then Some (leg_at part.now (2 * k)) else None) }
+    ensures { option_map as_leg result ≡ (if nat_le (2 * k + 2) (length part.now) then Some (leg_at part.now (2 * k)) else None) }
 {
     if k >= part.len() / 2 {
         return None;
