@@ -44,7 +44,7 @@ fn written_around(row: &[u8], answer: Answer, bytes: &mut [u8]) -> Result<(), Fa
     check_eq(bytes[0], 9)?;
     bytes[1..n].copy_from_slice(&row[1..n]);
     check_eq(write_answer(answer, bytes), Some(n))?;
-    check(&bytes[0..n] == row)?;
+    check_eq(&bytes[0..n], row)?;
     check_eq(bytes[n], 9)?;
     check_eq(read_answer(&bytes[0..n + 1]), Err(n))
 }

@@ -14,7 +14,9 @@ pub fn check(holds: bool) -> Result<(), Fail>
     }
 }
 
-pub fn check_eq<T: PartialEq + Debug + Drop>(left: T, right: T) -> Result<(), Fail> {
+pub fn check_eq<T: PartialEq + Debug + Drop>(left: T, right: T) -> Result<(), Fail>
+    ensures { OnOk result (IsTrue (T.eq left right)) }
+{
     if left == right {
         return Ok(());
     }

@@ -32,7 +32,7 @@ fn input(rt: &HostRuntime) -> anyhow::Result<Vec<u8>> {
     }
     match fs::read(rt, path.as_str()) {
         Ok(calls) => Ok(calls),
-        Err(e) => Err(anyhow!(format!(in rt.alloc(); "{path}: {e}")?)),
+        Err(e) => Err(anyhow!("{path}: {e}")),
     }
 }
 
