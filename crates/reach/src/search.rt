@@ -43,7 +43,7 @@ fn mark(
     ensures place { queue.new ≡ slice_set queue.old found x }
 {
     levels[x as usize] = level;
-    legs[x as usize] = leg.code() as u32;
+    legs[x as usize] = u32::from(u16::from(leg));
     queue[found] = x as u32;
 }
 

@@ -5,17 +5,19 @@ ghost use Rattle.streets.specs.Meaning.{as_leg};
 
 use super::leg::Leg;
 
-impl Leg {
-    // Its street doubled, plus 1 if it is backward.
-    pub fn code(self) -> u16
-        ensures { result ≡ leg_code (as_leg self) }
-    {
-        2 * self.along + self.back as u16
-    }
+impl From<Leg> for u16 {
+    ghost from_gives = { λ leg code. code ≡ leg_code (as_leg leg) };
 
-    pub fn from_code(code: u16) -> Leg
-        ensures { as_leg result ≡ coded code }
-    {
+    // Its street doubled, plus 1 if it is backward.
+    fn from(leg: Leg) -> u16 {
+        2 * leg.along + u16::from(leg.back)
+    }
+}
+
+impl From<u16> for Leg {
+    ghost from_gives = { λ code leg. as_leg leg ≡ coded code };
+
+    fn from(code: u16) -> Leg {
         Leg {
             along: code / 2,
             back: code % 2 == 1,

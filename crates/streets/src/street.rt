@@ -4,7 +4,7 @@ ghost use Rattle.streets.specs.Streets.{joining};
 ghost use Rattle.streets.specs.Meaning.{as_street};
 
 // Its two ends may be one corner.
-#[derive(Clone, Copy)]
+#[derive(Clone, Copy, Debug, PartialEq, Eq, Hash)]
 pub struct Street {
     pub one: u16,
     pub other: u16,
