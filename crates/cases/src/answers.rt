@@ -1,10 +1,10 @@
 // Answers as rows of bytes: every kind, legs both ways, rows that are too short, too long or unknown.
-ghost use Rattle.std.specs.Prelude.{◌<◌};
+ghost use Rattle.std.specs.Prelude.{◌≡◌, ◌<◌};
 
 use super::check::{check, check_eq};
 use std::test::Fail;
 use streets::Leg;
-use wire::{Answer, LEGS_AT, read_answer, read_leg, write_answer, write_round};
+use wire::{Answer, LEGS_AT, Unreadable, read_leg, write, write_round};
 
 #[test]
 fn good_rows(rt: HostRuntime) -> Result<(), Fail> {
@@ -30,7 +30,7 @@ fn good_rows(rt: HostRuntime) -> Result<(), Fail> {
         (&[4], Answer::Never),
     ];
     for (row, answer) in cases {
-        assert_eq!(rt; read_answer(row), Ok(answer));
+        assert_eq!(rt; Answer::try_from(row), Ok(answer));
         written_around(row, answer, &mut [9u8; 16])?;
     }
     Ok(())
@@ -40,13 +40,16 @@ fn good_rows(rt: HostRuntime) -> Result<(), Fail> {
 fn written_around(row: &[u8], answer: Answer, bytes: &mut [u8]) -> Result<(), Fail> {
     let n = row.len();
     check(0 < n && n < bytes.len())?;
-    check_eq(write_answer(answer, &mut bytes[0..n - 1]), None)?;
+    check_eq(write(&answer, &mut bytes[0..n - 1]), None)?;
     check_eq(bytes[0], 9)?;
     bytes[1..n].copy_from_slice(&row[1..n]);
-    check_eq(write_answer(answer, bytes), Some(n))?;
+    check_eq(write(&answer, bytes), Some(n))?;
     check_eq(&bytes[0..n], row)?;
     check_eq(bytes[n], 9)?;
-    check_eq(read_answer(&bytes[0..n + 1]), Err(n))
+    check_eq(
+        Answer::try_from(&bytes[0..n + 1]),
+        Err(Unreadable { place: n }),
+    )
 }
 
 #[test]
@@ -60,58 +63,48 @@ fn bad_rows(rt: HostRuntime) {
         (&[3, 1, 0, 0, 0, 0, 0, 1, 0, 0], 10),
     ];
     for (row, place) in cases {
-        assert_eq!(rt; read_answer(row), Err(place));
+        assert_eq!(rt; Answer::try_from(row), Err(Unreadable { place }));
     }
 }
 
-fn ahead(along: u16) -> Leg
+fn leg(along: u16, back: bool) -> Leg
     requires { along < 32768 }
+    ensures { (result.along ≡ along) × (result.back ≡ back) }
 {
-    Leg { along, back: false }
-}
-
-fn back(along: u16) -> Leg
-    requires { along < 32768 }
-{
-    Leg { along, back: true }
+    Leg { along, back }
 }
 
 // A shortest round over seven bridges: 0 0' 1 5 4' 2 6 6' 3'.
 #[test]
 fn legs_both_ways(rt: HostRuntime) -> Result<(), Fail> {
     let round = [
-        ahead(0),
-        back(0),
-        ahead(1),
-        ahead(5),
-        back(4),
-        ahead(2),
-        ahead(6),
-        back(6),
-        back(3),
+        leg(0, false),
+        leg(0, true),
+        leg(1, false),
+        leg(5, false),
+        leg(4, true),
+        leg(2, false),
+        leg(6, false),
+        leg(6, true),
+        leg(3, true),
     ];
     let codes = [0u8, 1, 2, 10, 9, 4, 12, 13, 7];
     let mut bytes = [0u8; 44];
     assert_eq!(rt; write_round(&round, None, &mut bytes[0..22]), None);
     assert_eq!(rt; write_round(&round, None, &mut bytes), Some(23));
     assert_eq!(rt;
-        read_answer(&bytes[0..23]),
+        Answer::try_from(&bytes[0..23]),
         Ok(Answer::Shortest { legs: 9 })
     );
-    for k in 0..9 {
-        assert_eq!(rt;
-            &bytes[LEGS_AT + 2 * k..LEGS_AT + 2 * k + 2],
-            [codes[k], 0].as_slice()
-        );
-        let Some(read) = read_leg(&bytes[LEGS_AT..23], k) else {
-            return Err(Fail::new("no leg"));
-        };
-        assert!(rt; read.along == round[k].along && read.back == round[k].back);
+    let part = &bytes[LEGS_AT..23];
+    for (k, (leg, code)) in round.into_iter().zip(codes).enumerate() {
+        assert_eq!(rt; &part[2 * k..2 * k + 2], [code, 0].as_slice());
+        assert_eq!(rt; read_leg(part, k), Some(leg));
     }
-    assert_eq!(rt; read_leg(&bytes[LEGS_AT..23], 9).is_some(), false);
+    assert_eq!(rt; read_leg(part, 9), None);
     assert_eq!(rt; write_round(&round, Some(9), &mut bytes), Some(27));
     assert_eq!(rt;
-        read_answer(&bytes[0..27]),
+        Answer::try_from(&bytes[0..27]),
         Ok(Answer::SomeRound { legs: 9, low: 9 })
     );
     Ok(())

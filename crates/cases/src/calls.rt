@@ -1,5 +1,5 @@
 // Rows of bytes as calls: every kind, each length around the right one, fields at their ends.
-use wire::{Call, first_row, read_call, write_call};
+use wire::{Call, Unreadable, first_row, write};
 
 #[test]
 fn good_rows(rt: HostRuntime) {
@@ -34,11 +34,11 @@ fn good_rows(rt: HostRuntime) {
     for (row, call) in cases {
         let n = row.len();
         assert!(rt; 0 < n && n < 16);
-        assert_eq!(rt; read_call(row), Ok(call));
+        assert_eq!(rt; Call::try_from(row), Ok(call));
         let mut bytes = [9u8; 16];
-        assert_eq!(rt; write_call(call, &mut bytes[0..n - 1]), None);
+        assert_eq!(rt; write(&call, &mut bytes[0..n - 1]), None);
         assert_eq!(rt; bytes, [9u8; 16]);
-        assert_eq!(rt; write_call(call, &mut bytes), Some(n));
+        assert_eq!(rt; write(&call, &mut bytes), Some(n));
         assert_eq!(rt; &bytes[0..n], row);
         assert_eq!(rt; bytes[n], 9);
         assert_eq!(rt; first_row(&bytes), row);
@@ -47,16 +47,16 @@ fn good_rows(rt: HostRuntime) {
 
 #[test]
 fn lengths(rt: HostRuntime) {
-    assert_eq!(rt; read_call(&[]), Err(0));
+    assert_eq!(rt; Call::try_from(&[] as &[u8]), Err(Unreadable { place: 0 }));
     let kinds: [(u8, usize); 4] = [(0, 13), (1, 5), (2, 1), (3, 5)];
     for (kind, size) in kinds {
         let mut row = [0u8; 20];
         row[0] = kind;
         for n in 1..20 {
-            let read = read_call(&row[0..n]);
+            let read = Call::try_from(&row[0..n]);
             assert_eq!(rt; read.is_ok(), n == size);
             if n != size {
-                assert_eq!(rt; read, Err(n.min(size)));
+                assert_eq!(rt; read, Err(Unreadable { place: n.min(size) }));
             }
         }
     }
@@ -65,8 +65,12 @@ fn lengths(rt: HostRuntime) {
 #[test]
 fn unknown_first_bytes(rt: HostRuntime) {
     for kind in 4u8..=255 {
-        assert_eq!(rt; read_call(&[kind]), Err(0));
-        assert_eq!(rt; read_call(&[kind, 0, 0, 0, 0]), Err(0));
-        assert_eq!(rt; first_row(&[kind, 0, 0, 0, 0]).len(), 1);
+        let row = [kind, 0, 0, 0, 0];
+        assert_eq!(rt; Call::try_from(&row[0..1]), Err(Unreadable { place: 0 }));
+        assert_eq!(rt;
+            Call::try_from(row.as_slice()),
+            Err(Unreadable { place: 0 })
+        );
+        assert_eq!(rt; first_row(&row).len(), 1);
     }
 }

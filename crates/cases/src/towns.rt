@@ -1,9 +1,8 @@
 // Towns: limits and memory at their bounds, refusals and what they leave, the streets of each corner.
-ghost use Rattle.town.specs.Town.{Sound};
-
 use super::check::{check, check_eq};
 use std::test::Fail;
-use town::{Limits, Refusal, close_street, count, open_street, open_town, street, streets_at};
+use streets::Street;
+use town::{Limits, Refusal, TownMut, TownRef, open_town};
 
 // Opening is refused, and memory is as it was.
 fn not_opened(
@@ -31,8 +30,7 @@ fn limits_out_of_range() -> Result<(), Fail> {
         (1, 4_294_967_295),
     ];
     for (corners, streets) in cases {
-        let mut memory = [9u32; 20];
-        not_opened(&mut memory, 20, corners, streets, Refusal::OutOfRange)?;
+        not_opened(&mut [9; 20], 20, corners, streets, Refusal::OutOfRange)?;
     }
     Ok(())
 }
@@ -61,112 +59,114 @@ fn words(rt: HostRuntime) -> Result<(), Fail> {
     Ok(())
 }
 
-// A call has this answer, and if it is refused, memory is as it was.
-fn opens(
-    memory: &mut [u32; 24],
-    ends: (u32, u32),
-    long: u32,
-    answer: Result<u16, Refusal>,
-) -> Result<(), Fail>
-    requires { Sound memory.old }
-    ensures { Sound memory.new }
-{
-    let before = *memory;
-    let (one, other) = ends;
-    check_eq(open_street(memory, one, other, long), answer)?;
-    check(answer.is_ok() || *memory == before)
+// The words of the town's memory.
+fn words_of(town: &TownMut<'_>) -> Result<[u32; 24], Fail> {
+    check(town.memory.len() == 24)?;
+    let mut words = [0; 24];
+    words.copy_from_slice(town.memory);
+    Ok(words)
 }
 
-fn closes(memory: &mut [u32; 24], i: u32, answer: Result<u16, Refusal>) -> Result<(), Fail>
-    requires { Sound memory.old }
-    ensures { Sound memory.new }
+// A call has this answer, and if it is refused, memory is as it was.
+fn answers<F: FnOnce(&mut TownMut<'_>) -> Result<u16, Refusal>>(
+    town: &mut TownMut<'_>,
+    call: F,
+    answer: Result<u16, Refusal>,
+) -> Result<(), Fail>
+    requires { F.IsAlwaysCallable call }
 {
-    let before = *memory;
-    check_eq(close_street(memory, i), answer)?;
-    check(answer.is_ok() || *memory == before)
+    let before = words_of(town)?;
+    check_eq(call(town), answer)?;
+    check(answer.is_ok() || words_of(town)? == before)
+}
+
+fn opens(
+    town: &mut TownMut<'_>,
+    (one, other): (u32, u32),
+    long: u32,
+    answer: Result<u16, Refusal>,
+) -> Result<(), Fail> {
+    answers(town, |town| town.open_street(one, other, long), answer)
+}
+
+fn closes(town: &mut TownMut<'_>, i: u32, answer: Result<u16, Refusal>) -> Result<(), Fail> {
+    answers(town, |town| town.close_street(i), answer)
 }
 
 #[test]
 fn refusals() -> Result<(), Fail> {
     let mut memory = [9u32; 24];
     open_town(&mut memory, 5, 3)?;
-    closes(&mut memory, 0, Err(Refusal::NotThere))?;
-    opens(&mut memory, (5, 0), 1, Err(Refusal::NotThere))?;
-    opens(&mut memory, (0, 5), 0, Err(Refusal::NotThere))?;
-    opens(&mut memory, (65_535, 0), 1, Err(Refusal::NotThere))?;
-    opens(&mut memory, (0, 65_536), 1, Err(Refusal::NotThere))?;
-    opens(&mut memory, (4_294_967_295, 0), 1, Err(Refusal::NotThere))?;
-    opens(&mut memory, (0, 4), 0, Err(Refusal::Length))?;
-    opens(&mut memory, (0, 4), 1_000_001, Err(Refusal::Length))?;
-    opens(&mut memory, (4, 0), 1, Ok(0))?;
-    opens(&mut memory, (4, 4), 1_000_000, Ok(1))?;
-    opens(&mut memory, (4, 0), 7, Ok(2))?;
-    opens(&mut memory, (0, 1), 1, Err(Refusal::Full))?;
-    opens(&mut memory, (0, 1), 0, Err(Refusal::Length))?;
-    opens(&mut memory, (0, 5), 0, Err(Refusal::NotThere))?;
-    closes(&mut memory, 3, Err(Refusal::NotThere))?;
-    closes(&mut memory, 65_536, Err(Refusal::NotThere))?;
-    closes(&mut memory, 2, Ok(2))?;
-    opens(&mut memory, (0, 1), 1, Ok(2))
+    let mut town = TownMut {
+        memory: &mut memory,
+    };
+    closes(&mut town, 0, Err(Refusal::NotThere))?;
+    opens(&mut town, (5, 0), 1, Err(Refusal::NotThere))?;
+    opens(&mut town, (0, 5), 0, Err(Refusal::NotThere))?;
+    opens(&mut town, (65_535, 0), 1, Err(Refusal::NotThere))?;
+    opens(&mut town, (0, 65_536), 1, Err(Refusal::NotThere))?;
+    opens(&mut town, (4_294_967_295, 0), 1, Err(Refusal::NotThere))?;
+    opens(&mut town, (0, 4), 0, Err(Refusal::Length))?;
+    opens(&mut town, (0, 4), 1_000_001, Err(Refusal::Length))?;
+    opens(&mut town, (4, 0), 1, Ok(0))?;
+    opens(&mut town, (4, 4), 1_000_000, Ok(1))?;
+    opens(&mut town, (4, 0), 7, Ok(2))?;
+    opens(&mut town, (0, 1), 1, Err(Refusal::Full))?;
+    opens(&mut town, (0, 1), 0, Err(Refusal::Length))?;
+    opens(&mut town, (0, 5), 0, Err(Refusal::NotThere))?;
+    closes(&mut town, 3, Err(Refusal::NotThere))?;
+    closes(&mut town, 65_536, Err(Refusal::NotThere))?;
+    closes(&mut town, 2, Ok(2))?;
+    opens(&mut town, (0, 1), 1, Ok(2))
 }
 
 // The streets of corners 0 to 3 are these.
-fn lists(memory: &[u32; 24], at: [&[u32]; 4]) -> Result<(), Fail>
-    requires { Sound memory.now }
-{
-    let [zero, one, two, three] = at;
-    check_eq(streets_at(memory, 0), zero)?;
-    check_eq(streets_at(memory, 1), one)?;
-    check_eq(streets_at(memory, 2), two)?;
-    check_eq(streets_at(memory, 3), three)?;
-    check_eq(streets_at(memory, 4), &[] as &[u32])?;
-    check_eq(streets_at(memory, 4_294_967_295), &[] as &[u32])
+fn lists(town: &TownMut<'_>, at: [&[u32]; 4]) -> Result<(), Fail> {
+    let town = town.read();
+    for (c, streets) in (0..4).zip(at) {
+        check_eq(town.streets_at(c), streets)?;
+    }
+    check_eq(town.streets_at(4), &[] as &[u32])?;
+    check_eq(town.streets_at(4_294_967_295), &[] as &[u32])
 }
 
 #[test]
 fn streets_of_corners(rt: HostRuntime) -> Result<(), Fail> {
     let mut memory = [9u32; 24];
     open_town(&mut memory, 4, 3)?;
-    lists(&memory, [&[], &[], &[], &[]])?;
-    opens(&mut memory, (3, 1), 5, Ok(0))?;
-    lists(&memory, [&[], &[0], &[], &[0]])?;
-    opens(&mut memory, (1, 1), 6, Ok(1))?;
-    opens(&mut memory, (1, 3), 7, Ok(2))?;
-    lists(&memory, [&[], &[0, 1, 1, 2], &[], &[0, 2]])?;
-    closes(&mut memory, 0, Ok(0))?;
-    lists(&memory, [&[], &[0, 0, 1], &[], &[1]])?;
-    assert_eq!(rt; count(&memory), 2);
-    let s = street(&memory, 1);
-    assert_eq!(rt; (s.one, s.other, s.long), (1, 3, 7));
-    let past = street(&memory, 2);
-    assert_eq!(rt; (past.one, past.other, past.long), (0, 0, 0));
-    closes(&mut memory, 1, Ok(1))?;
-    closes(&mut memory, 0, Ok(0))?;
-    closes(&mut memory, 0, Err(Refusal::NotThere))?;
-    lists(&memory, [&[], &[], &[], &[]])
+    let mut town = TownMut {
+        memory: &mut memory,
+    };
+    lists(&town, [&[], &[], &[], &[]])?;
+    opens(&mut town, (3, 1), 5, Ok(0))?;
+    lists(&town, [&[], &[0], &[], &[0]])?;
+    opens(&mut town, (1, 1), 6, Ok(1))?;
+    opens(&mut town, (1, 3), 7, Ok(2))?;
+    lists(&town, [&[], &[0, 1, 1, 2], &[], &[0, 2]])?;
+    closes(&mut town, 0, Ok(0))?;
+    lists(&town, [&[], &[0, 0, 1], &[], &[1]])?;
+    assert_eq!(rt; town.read().count(), 2);
+    assert_eq!(rt; town.read().street(1), Street::new(1, 3, 7));
+    assert_eq!(rt; town.read().street(2), Street::new(0, 0, 0));
+    closes(&mut town, 1, Ok(1))?;
+    closes(&mut town, 0, Ok(0))?;
+    closes(&mut town, 0, Err(Refusal::NotThere))?;
+    lists(&town, [&[], &[], &[], &[]])
 }
 
 // Fills the largest town: eight ends at each corner.
-fn fill(memory: &mut [u32]) -> Result<(), Fail>
-    requires { Sound memory.old }
-    ensures { Sound memory.new }
-{
-    for i in 0..1_024u32 {
-        check_eq(
-            open_street(memory, i % 256, (7 * i + 3) % 256, i + 1),
-            Ok(i as u16),
-        )?;
+fn fill(town: &mut TownMut<'_>) -> Result<(), Fail> {
+    for i in 0..1_024 {
+        let n = u32::from(i);
+        check_eq(town.open_street(n % 256, (7 * n + 3) % 256, n + 1), Ok(i))?;
     }
     Ok(())
 }
 
 // Closes the street with the lowest number until there is none.
-fn empty(memory: &mut [u32]) -> Result<(), Fail>
-    requires { Sound memory.old }
-    ensures { Sound memory.new }
-{
-    for _ in 0..1_024u32 {
-        check_eq(close_street(memory, 0), Ok(0))?;
+fn empty(town: &mut TownMut<'_>) -> Result<(), Fail> {
+    for _ in 0..1_024 {
+        check_eq(town.close_street(0), Ok(0))?;
     }
     Ok(())
 }
@@ -175,12 +175,38 @@ fn empty(memory: &mut [u32]) -> Result<(), Fail>
 fn largest_town(rt: HostRuntime) -> Result<(), Fail> {
     let mut memory = [0u32; 5_380];
     open_town(&mut memory, 256, 1_024)?;
-    fill(&mut memory)?;
-    assert_eq!(rt; open_street(&mut memory, 0, 255, 1), Err(Refusal::Full));
-    for c in 0..256u32 {
-        assert_eq!(rt; streets_at(&memory, c).len(), 8);
+    let mut town = TownMut {
+        memory: &mut memory,
+    };
+    fill(&mut town)?;
+    assert_eq!(rt; town.open_street(0, 255, 1), Err(Refusal::Full));
+    for c in 0..256 {
+        assert_eq!(rt; town.read().streets_at(c).len(), 8);
     }
-    empty(&mut memory)?;
-    assert_eq!(rt; close_street(&mut memory, 0), Err(Refusal::NotThere));
+    empty(&mut town)?;
+    assert_eq!(rt; town.close_street(0), Err(Refusal::NotThere));
     Ok(())
+}
+
+// Lent again, memory still holds the town as the last call left it.
+#[test]
+fn lent_again() -> Result<(), Fail> {
+    let mut memory = [9u32; 24];
+    open_town(&mut memory, 4, 3)?;
+    check_eq(
+        TownMut {
+            memory: &mut memory,
+        }
+        .open_street(2, 1, 5),
+        Ok(0),
+    )?;
+    check_eq(TownRef { memory: &memory }.street(0), Street::new(2, 1, 5))?;
+    check_eq(
+        TownMut {
+            memory: &mut memory,
+        }
+        .close_street(0),
+        Ok(0),
+    )?;
+    check_eq(TownRef { memory: &memory }.count(), 0)
 }

@@ -1,52 +1,49 @@
 // What the desk replies to a call.
-ghost use Rattle.std.specs.Prelude.{◌≡◌};
-ghost use Rattle.town.specs.Town.{Sound};
 ghost use Rattle.wire.specs.Format.{call_in, called};
 ghost use Rattle.wire.specs.Meaning.{as_call};
-ghost use Rattle.desk.specs.Lines.{Replied, unreadable};
+ghost use Rattle.desk.specs.Lines.{Replied};
 
-use town::{Refusal, close_street, open_street};
-use wire::{Call, read_call};
+use super::refused::Refused;
+use std::fmt;
+use town::TownMut;
+use wire::Call;
 
-// A call that changes streets has its number or its refusal; calls that ask are not answered yet.
+// A call that changes streets has its number; calls that ask are not answered yet.
+#[derive(Clone, Copy, Debug, PartialEq, Eq, Hash)]
 pub enum Reply {
-    Answered(Result<u16, Refusal>),
+    Number(u16),
     Odd,
     Round { from: u32 },
-    Unreadable { place: usize },
 }
 
-impl Reply {
-    pub fn is_unreadable(&self) -> bool
-        ensures { result ≡ unreadable self.now }
-    {
+impl fmt::Display for Reply {
+    ghost use Rattle.std.specs.Prelude.{Some};
+    ghost use Rattle.desk.specs.Lines.{reply_text};
+
+    ghost output = { λ r. Some (reply_text r) };
+
+    fn fmt<W: fmt::Write>(&self, f: &mut fmt::Formatter<W>) -> fmt::Result {
         match self {
-            Reply::Unreadable { .. } => true,
-            _ => false,
+            Reply::Number(n) => write!(f, "{n}"),
+            Reply::Odd => write!(f, "odd"),
+            Reply::Round { from } => write!(f, "round {from}"),
         }
     }
 }
 
-fn answer(memory: &mut [u32], call: Call) -> Reply
-    requires { Sound memory.old }
-    ensures right { Replied memory.old (as_call call) result memory.new }
-    ensures town { Sound memory.new }
+fn answer(town: &mut TownMut<'_>, call: Call) -> Result<Reply, Refused>
+    ensures { Replied town.old.memory.now (as_call call) result town.new.memory.now }
 {
-    match call {
-        Call::Open { one, other, long } => Reply::Answered(open_street(memory, one, other, long)),
-        Call::Close { street } => Reply::Answered(close_street(memory, street)),
+    Ok(match call {
+        Call::Open { one, other, long } => Reply::Number(town.open_street(one, other, long)?),
+        Call::Close { street } => Reply::Number(town.close_street(street)?),
         Call::Odd => Reply::Odd,
         Call::Round { from } => Reply::Round { from },
-    }
+    })
 }
 
-pub fn answer_row(memory: &mut [u32], row: &[u8]) -> Reply
-    requires { Sound memory.old }
-    ensures right { Replied memory.old (called (call_in row.now)) result memory.new }
-    ensures town { Sound memory.new }
+pub fn answer_row(town: &mut TownMut<'_>, row: &[u8]) -> Result<Reply, Refused>
+    ensures { Replied town.old.memory.now (called (call_in row.now)) result town.new.memory.now }
 {
-    match read_call(row) {
-        Ok(call) => answer(memory, call),
-        Err(place) => Reply::Unreadable { place },
-    }
+    answer(town, Call::try_from(row)?)
 }

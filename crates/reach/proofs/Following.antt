@@ -21,8 +21,8 @@ pub record Following (ss : List Street) (n here level asked : ℕ) (levels legs 
   pub passed : (i : ℕ) → i < j → Near (entry levels here) (entry levels (stops ss (leaving ss here (entry (streets_at ss here) i))))
 
 -- the next street in the list of the corner: the leg l along it comes to x
-module _ (ss : List Street) (n here level asked : ℕ) (levels legs queue : List ℕ) (done found j : ℕ) (f : Following ss n here level asked levels legs queue done found j)
-    (inside : Inside n ss) (list : List ℕ) (all : list ≡ streets_at ss here) (h : j < length list) where
+module _ {ss : List Street} {n here level asked : ℕ} {levels legs queue : List ℕ} {done found j : ℕ} (f : Following ss n here level asked levels legs queue done found j)
+    (inside : Inside n ss) {list : List ℕ} (all : list ≡ streets_at ss here) (h : j < length list) where
   same : entry list j ≡ entry (streets_at ss here) j
   same = ap (λ (w : List ℕ). entry w j) all
 
@@ -32,7 +32,7 @@ module _ (ss : List Street) (n here level asked : ℕ) (levels legs queue : List
   pub here_found : (here < n) × (0 < entry levels here)
   here_found = let q = f.search.queued done f.next in omega (arith, q.0, q.1, f.at_here, ap (entry levels) f.at_here)
 
-  module _ (l : Leg) (x : ℕ) (leaves : l ≡ leaving ss here (entry list j)) (to : x ≡ stops ss (leaving ss here (entry list j))) where
+  module _ {l : Leg} {x : ℕ} (leaves : l ≡ leaving ss here (entry list j)) (to : x ≡ stops ss (leaving ss here (entry list j))) where
     goes_on : (may_go ss l ≡ true) × (starts ss l ≡ here) × (stops ss l ≡ x)
     goes_on = rw leaves (leg_may ss _ street_ends.0, leaving_starts ss here (entry list j) street_ends.1, sym to)
 

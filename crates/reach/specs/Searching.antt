@@ -1,8 +1,14 @@
 -- A breadth-first search under way.
-use Rattle.std.specs.Prelude.{◌≡◌, ℕ, suc, ◌<◌, ◌≤◌, min, true, List}
+use Rattle.std.specs.Prelude.{◌≡◌, ℕ, suc, ◌<◌, ◌≤◌, min, true, List, length}
 use Rattle.streets.specs.Streets.{Street, Leg, coded, starts, stops, may_go}
 use Rattle.streets.specs.Counts.{sum_below}
 use Rattle.reach.specs.Reach.{First, entry}
+
+-- each of the words has one for each corner below n
+pub record HasRoom (n : ℕ) (levels legs queue : List ℕ) : Type 0 where
+  pub long_levels : n ≤ length levels
+  pub long_legs : n ≤ length legs
+  pub long_queue : n ≤ length queue
 
 -- a corner at the level v may have a leg to one at the level w
 abbrev pub Near : ℕ → ℕ → Type 0

@@ -3,17 +3,15 @@ ghost use Rattle.std.specs.Prelude.{◌≡◌, ◌%◌, slice_set};
 ghost use Rattle.streets.specs.Streets.{odd_corners};
 ghost use Rattle.streets.specs.Calls.{odd, number};
 ghost use Rattle.town.specs.Layout.{limits_in, streets_in};
-ghost use Rattle.town.specs.Town.{Sound};
 ghost use Rattle.town.specs.Changes.{Called};
 ghost use Rattle.reach.specs.Odd.{is_odd, odd_below, over};
 
-use town::{degree, limits};
+use town::TownRef;
 
-fn is_odd(memory: &[u32], c: u16) -> bool
-    requires { Sound memory.now }
-    ensures { result ≡ is_odd (streets_in memory.now) c }
+fn is_odd(town: &TownRef<'_>, c: u16) -> bool
+    ensures { result ≡ is_odd (streets_in town.now.memory.now) c }
 {
-    degree(memory, c as u32) % 2 == 1
+    town.degree(u32::from(c)) % 2 == 1
 }
 
 // Writes c to a place of the list, if there is such a place.
@@ -26,16 +24,15 @@ fn put(list: &mut [u32], place: usize, c: u32)
 }
 
 // The number of odd corners. They are written to the list in increasing order, as many as it has room for.
-pub fn odd_corners(memory: &[u32], list: &mut [u32]) -> u16
-    requires { Sound memory.now }
-    ensures count { result ≡ odd_corners (streets_in memory.now) (limits_in memory.now).corners }
+pub fn odd_corners(town: &TownRef<'_>, list: &mut [u32]) -> u16
+    ensures count { result ≡ odd_corners (streets_in town.now.memory.now) (limits_in town.now.memory.now).corners }
     ensures pairs { result % 2 ≡ 0 }
-    ensures listed { list.new ≡ over (odd_below (streets_in memory.now) (limits_in memory.now).corners) list.old }
+    ensures listed { list.new ≡ over (odd_below (streets_in town.now.memory.now) (limits_in town.now.memory.now).corners) list.old }
 {
     let mut found = 0;
-    for c in 0..limits(memory).corners {
-        if is_odd(memory, c) {
-            put(list, found as usize, c as u32);
+    for c in 0..town.limits().corners {
+        if is_odd(town, c) {
+            put(list, usize::from(found), u32::from(c));
             found += 1;
         }
     }
@@ -43,9 +40,8 @@ pub fn odd_corners(memory: &[u32], list: &mut [u32]) -> u16
 }
 
 // The answer to the call that asks for the number of odd corners.
-pub fn odd(memory: &[u32]) -> u16
-    requires { Sound memory.now }
-    ensures { Called memory.now odd (number result) memory.now }
+pub fn odd(town: &TownRef<'_>) -> u16
+    ensures { Called town.now.memory.now odd (number result) town.now.memory.now }
 {
-    odd_corners(memory, &mut [])
+    odd_corners(town, &mut [])
 }

@@ -3,21 +3,19 @@ ghost use Rattle.std.specs.Prelude.{◌≡◌, ℕ, ◌+◌, ◌<◌, ◌≤◌,
 ghost use Rattle.streets.specs.Streets.{street, leg_code, leaving, stops};
 ghost use Rattle.streets.specs.Meaning.{as_leg};
 ghost use Rattle.town.specs.Layout.{limits_in, streets_in};
-ghost use Rattle.town.specs.Town.{Sound};
 ghost use Rattle.reach.specs.Reach.{entry};
-ghost use Rattle.reach.specs.Searching.{Searching};
+ghost use Rattle.reach.specs.Searching.{HasRoom, Searching};
 
 use streets::Leg;
-use town::{street, streets_at};
+use town::TownRef;
 
 // The leg along street i that leaves a corner, and where it stops.
-fn leave(memory: &[u32], here: u16, i: u32) -> (Leg, u16)
-    requires town { Sound memory.now }
-    requires there { i < length (streets_in memory.now) }
-    ensures leg { as_leg result.0 ≡ leaving (streets_in memory.now) here i }
-    ensures stop { result.1 ≡ stops (streets_in memory.now) (leaving (streets_in memory.now) here i) }
+fn leave(town: &TownRef<'_>, here: u16, i: u32) -> (Leg, u16)
+    requires { i < length (streets_in town.now.memory.now) }
+    ensures leg { as_leg result.0 ≡ leaving (streets_in town.now.memory.now) here i }
+    ensures stop { result.1 ≡ stops (streets_in town.now.memory.now) (leaving (streets_in town.now.memory.now) here i) }
 {
-    let s = street(memory, i);
+    let s = town.street(i);
     let leg = Leg {
         along: i as u16,
         back: s.one != here,
@@ -25,54 +23,52 @@ fn leave(memory: &[u32], here: u16, i: u32) -> (Leg, u16)
     (leg, s.across(here))
 }
 
-// Corner x is found by a leg: it has its level, and stands in the queue.
-fn mark(
-    levels: &mut [u32],
-    legs: &mut [u32],
-    queue: &mut [u32],
+// What a search has found, in memory that the caller lends: a word in each slice for each corner.
+#[derive(Drop)]
+struct Finds<'m> {
+    corners: u16,
+    levels: &'m mut [u32],
+    legs: &'m mut [u32],
+    queue: &'m mut [u32],
     found: usize,
-    x: u16,
-    level: u32,
-    leg: Leg,
-)
-    requires levels { x < length levels.old }
-    requires legs { x < length legs.old }
-    requires queue { found < length queue.old }
-    ensures level { levels.new ≡ slice_set levels.old x level }
-    ensures leg { legs.new ≡ slice_set legs.old x (leg_code (as_leg leg)) }
-    ensures place { queue.new ≡ slice_set queue.old found x }
-{
-    levels[x as usize] = level;
-    legs[x as usize] = u32::from(u16::from(leg));
-    queue[found] = x as u32;
+    ghost room: { HasRoom corners levels.now legs.now queue.now },
 }
 
-// Follows all legs of the next corner in the queue; the number of corners found by then.
-fn follow(
-    memory: &[u32],
-    levels: &mut [u32],
-    legs: &mut [u32],
-    queue: &mut [u32],
-    done: usize,
-    mut found: usize,
-) -> usize
-    requires town { Sound memory.now }
-    requires levels { (limits_in memory.now).corners ≤ length levels.old }
-    requires legs { (limits_in memory.now).corners ≤ length legs.old }
-    requires queue { (limits_in memory.now).corners ≤ length queue.old }
-    requires next { done < found }
-    requires search { Searching (streets_in memory.now) (limits_in memory.now).corners levels.old legs.old queue.old done found }
-    ensures search { Searching (streets_in memory.now) (limits_in memory.now).corners levels.new legs.new queue.new (done + 1) result }
-    ensures asked { entry queue.new 0 ≡ entry queue.old 0 }
-{
-    let here = queue[done] as u16;
-    let level = levels[here as usize] + 1;
-    for i in streets_at(memory, here as u32) {
-        let (leg, x) = leave(memory, here, *i);
-        if levels[x as usize] == 0 {
-            mark(levels, legs, queue, found, x, level, leg);
-            found += 1;
+impl Finds<'_> {
+    // Corner x is found by a leg: it has its level, and stands in the queue.
+    fn mark(&mut self, x: u16, level: u32, leg: Leg)
+        requires there { x < self.old.corners }
+        requires place { self.old.found < self.old.corners }
+        ensures corners { self.new.corners ≡ self.old.corners }
+        ensures same_words { (self.new.levels.ghost_name ≡ self.old.levels.ghost_name) × (self.new.legs.ghost_name ≡ self.old.legs.ghost_name) × (self.new.queue.ghost_name ≡ self.old.queue.ghost_name) }
+        ensures level { self.new.levels.now ≡ slice_set self.old.levels.now x level }
+        ensures leg { self.new.legs.now ≡ slice_set self.old.legs.now x (leg_code (as_leg leg)) }
+        ensures queue { self.new.queue.now ≡ slice_set self.old.queue.now self.old.found x }
+        ensures found { self.new.found ≡ self.old.found + 1 }
+    {
+        self.levels[usize::from(x)] = level;
+        self.legs[usize::from(x)] = u32::from(u16::from(leg));
+        self.queue[self.found] = u32::from(x);
+        self.found += 1;
+    }
+
+    // Follows all legs of the next corner in the queue.
+    fn follow(&mut self, town: &TownRef<'_>, done: usize)
+        requires corners { self.old.corners ≡ (limits_in town.now.memory.now).corners }
+        requires next { done < self.old.found }
+        requires search { Searching (streets_in town.now.memory.now) self.old.corners self.old.levels.now self.old.legs.now self.old.queue.now done self.old.found }
+        ensures corners { self.new.corners ≡ self.old.corners }
+        ensures same_words { (self.new.levels.ghost_name ≡ self.old.levels.ghost_name) × (self.new.legs.ghost_name ≡ self.old.legs.ghost_name) × (self.new.queue.ghost_name ≡ self.old.queue.ghost_name) }
+        ensures search { Searching (streets_in town.now.memory.now) self.new.corners self.new.levels.now self.new.legs.now self.new.queue.now (done + 1) self.new.found }
+        ensures asked { entry self.new.queue.now 0 ≡ entry self.old.queue.now 0 }
+    {
+        let here = self.queue[done] as u16;
+        let level = self.levels[usize::from(here)] + 1;
+        for i in town.streets_at(u32::from(here)) {
+            let (leg, x) = leave(town, here, *i);
+            if self.levels[usize::from(x)] == 0 {
+                self.mark(x, level, leg);
+            }
         }
     }
-    found
 }

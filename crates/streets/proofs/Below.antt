@@ -15,32 +15,21 @@ module _ (W : Links) (law : Linking W) (ss : List Street) (spans : Spans W ss) w
   unfolding total
   none t few = record { pairs = []; pairing = record { each = λ k. omega (arith, weigh_nothing ss (λ s. ends s k) t few); linked = tt }; cost = omega arith }
 
-  -- street i, and what t counts besides
-  module _ (t : ℕ → ℕ) (i : ℕ) (l : i < length ss) (some : 0 < t i) where
-    less : ℕ → ℕ
-    less j = t j - mark i j
-
-    split : (f : Street → ℕ) → weigh ss f t ≡ f (street ss i) + weigh ss f less
-    unfolding less
-    split f = weigh_more ss f less t i l (taken t i some)
-
-    one_street : Paired W (degree ss less) (stretch ss less) → Paired W (degree ss t) (stretch ss t)
-    one_street r =
-        let s = street ss i in
-        let once : (k : ℕ) → ends_at r.pairs k ≤ 1 = λ k. omega (arith, r.pairing.each k) in
-        paired_as
-        (exchange W law r.pairs r.pairing.linked once s.one s.other s.long (spans i l))
-        (λ k. omega (arith, r.pairing.each k, split (λ s. ends s k)))
-        (omega (arith, r.cost, split (λ s. s.long)))
-
   pairs_within : (bound : ℕ) (t : ℕ → ℕ) → weigh ss ones t ≤ bound → Paired W (degree ss t) (stretch ss t)
   pairs_within zero t few = none t few
   pairs_within (suc bound) t few =
       elim (cases_lt 0 (weigh ss ones t)) [
         | inl m ↦
             let r = some_street ss ones t m in
-            let i = r.0 in
-            one_street t i r.1 r.2 (pairs_within bound (less t i r.1 r.2) (omega (arith, split t i r.1 r.2 ones)))
+            let s = street ss r.0 in
+            let less : ℕ → ℕ = λ i. t i - mark r.0 i in
+            let split : (f : Street → ℕ) → weigh ss f t ≡ f s + weigh ss f less = λ f. weigh_more ss f less t r.0 r.1 (taken t r.0 r.2) in
+            let p = pairs_within bound less (omega (arith, split ones)) in
+            let once : (k : ℕ) → ends_at p.pairs k ≤ 1 = λ k. omega (arith, p.pairing.each k) in
+            paired_as
+            (exchange W law p.pairs p.pairing.linked once s.one s.other s.long (spans r.0 r.1))
+            (λ k. omega (arith, p.pairing.each k, split (λ s. ends s k)))
+            (omega (arith, p.cost, split (λ s. s.long)))
         | inr m ↦ none t m
       ]
 

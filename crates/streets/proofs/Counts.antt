@@ -1,21 +1,16 @@
 -- How many legs a walk has and how long it is, if it uses no street more than twice.
-use Rattle.std.proofs.Common.{◌≡◌, ℕ, ◌*◌, ◌≤◌, true, List, [], ◌∷◌, length, refl, arith}
+use Rattle.std.proofs.Common.{◌≡◌, ℕ, ◌*◌, ◌≤◌, true, List, [], ◌∷◌, length, arith}
 use Rattle.std.specs.List.{AllByRecursion}
 use Rattle.streets.specs.Streets.{Street, Leg, goes, stops, how_long, times, total, all_long, AtMostTwice}
 use Rattle.streets.specs.Counts.{weigh}
-use Rattle.streets.proofs.Sums.{ones, weigh_le, weigh_twos}
+use Rattle.streets.proofs.Sums.{sum_ones, ones, weigh_le, weigh_ones, weigh_twos}
 use Rattle.streets.proofs.Walks.{step, weigh_none, weigh_leg, by_counts}
-
-total_ones : (ss : List Street) → total ones ss ≡ length ss
-unfolding total
-total_ones [] = refl
-total_ones (s ∷ ss) = let r = total_ones ss in omega arith
 
 -- at most m for each street
 pub total_most : (f : Street → ℕ) (m : ℕ) (ss : List Street) → AllByRecursion (λ s. f s ≤ m) ss → total f ss ≤ length ss * m
 unfolding total
 total_most f m [] h = omega arith
-total_most f m (s ∷ ss) h = let r = total_most f m ss h.1 in omega (arith, h.0)
+total_most f m (s ∷ ss) h = omega (arith, h.0, total_most f m ss h.1)
 
 module _ (ss : List Street) where
   twice_weighs : (f : Street → ℕ) (ls : List Leg) → AtMostTwice ls (length ss) → weigh ss f (times ls) ≤ 2 * total f ss
@@ -25,13 +20,13 @@ module _ (ss : List Street) where
   walk_legs c [] d h = omega (arith, weigh_none ss ones)
   walk_legs c (l ∷ ls) d h =
       let s = step ss c l ls d h in
-      let r = walk_legs (stops ss l) ls d s.on in
-      omega (arith, weigh_leg ss ones l ls s.may)
+      omega (arith, walk_legs (stops ss l) ls d s.on, weigh_leg ss ones l ls s.may)
 
   module _ (c : ℕ) (ls : List Leg) (d : ℕ) (walks : goes ss c ls d ≡ true) (twice : AtMostTwice ls (length ss)) where
     -- at most two legs for each street
     pub few_legs : length ls ≤ 2 * length ss
-    few_legs = omega (arith, walk_legs c ls d walks, twice_weighs ones ls twice, total_ones ss)
+    unfolding weigh
+    few_legs = omega (arith, walk_legs c ls d walks, twice_weighs ones ls twice, weigh_ones ss ones, sum_ones (length ss))
 
     -- at most twice as long as all streets
     pub twice_long : how_long ss ls ≤ 2 * all_long ss

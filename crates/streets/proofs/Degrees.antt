@@ -1,6 +1,6 @@
 -- The number of odd corners is even, and Euler's theorem.
-use Rattle.std.proofs.Common.{◌≡◌, ℕ, ◌*◌, ◌%◌, ◌<◌, ◌≤◌, true, ◌&&◌, ltb, List, [], ◌∷◌, length, refl, ◌∙◌, inl, inr, arith}
-use Rattle.std.proofs.lemmas.Bool.{and_parts, ltb-true, cases_lt}
+use Rattle.std.proofs.Common.{◌≡◌, ℕ, ◌*◌, ◌%◌, ◌<◌, ◌≤◌, true, List, [], ◌∷◌, length, refl, ◌∙◌, inl, inr, arith}
+use Rattle.std.proofs.lemmas.Bool.{cases_lt}
 use Rattle.std.proofs.lemmas.Bool.Decides.{nat_tests}
 use Rattle.streets.specs.Streets.{Street, times, mark, ends, total, ends_at, odd_corners}
 use Rattle.streets.specs.Counts.{sum_below, degree}
@@ -9,35 +9,27 @@ use Rattle.streets.proofs.Sums.{sum_split, sum_same, sum_none, sum_parity, sum_m
 use Rattle.streets.proofs.Tests.{odd_sum, once_each_decides}
 use Rattle.streets.proofs.Rounds.{joined_round, round_even, round_joins}
 
-town_parts : (n : ℕ) (s : Street) (ss : List Street) → in_town n (s ∷ ss) ≡ true → (s.one < n) × (s.other < n) × (in_town n ss ≡ true)
-unfolding in_town
-town_parts n s ss h =
-    let p = and_parts (ltb s.one n && ltb s.other n) (in_town n ss) h in
-    let q = and_parts (ltb s.one n) (ltb s.other n) p.0 in
-    (ltb-true s.one n q.0, ltb-true s.other n q.1, p.1)
-
 -- past the town's corners there are no ends
 pub none_past : (ss : List Street) (n k : ℕ) → in_town n ss ≡ true → n ≤ k → ends_at ss k ≡ 0
-unfolding total
+unfolding total in_town
 none_past [] n k h l = refl
-none_past (s ∷ ss) n k h l = let p = town_parts n s ss h in let r = none_past ss n k p.2 l in grind (arith, nat_tests)
+none_past (s ∷ ss) n k h l = grind (arith, nat_tests, none_past ss n k (grind (arith, nat_tests)) l)
 
 pub mark_once : (a n : ℕ) → a < n → sum_below (mark a) n ≡ 1
 mark_once a n l = sum_same (mark a) (λ i. mark a i * 1) n (λ i _. omega arith) ∙ sum_mark a n (λ _. 1) l
 
 -- every street has two ends
 pub two_ends : (ss : List Street) (n : ℕ) → in_town n ss ≡ true → sum_below (ends_at ss) n ≡ 2 * length ss
-unfolding total
+unfolding total in_town
 two_ends [] n h = sum_none (ends_at []) n (λ i _. refl)
 two_ends (s ∷ ss) n h =
-    let p = town_parts n s ss h in
-    let r = two_ends ss n p.2 in
     omega (
       arith,
+      two_ends ss n (grind (arith, nat_tests)),
       sum_split (ends_at (s ∷ ss)) (ends s) (ends_at ss) n (λ i _. refl),
       sum_split (ends s) (mark s.one) (mark s.other) n (λ i _. refl),
-      mark_once s.one n p.0,
-      mark_once s.other n p.1,
+      mark_once s.one n (grind (arith, nat_tests)),
+      mark_once s.other n (grind (arith, nat_tests)),
     )
 
 pub in_pairs : InPairs

@@ -1,5 +1,5 @@
 -- The exchange lemma: pairs, and one link more, made into pairs again at no higher cost.
-use Rattle.std.proofs.Common.{◌≡◌, ℕ, ◌+◌, ◌%◌, ◌<◌, ◌≤◌, min, List, [], ◌∷◌, ap, inl, inr, arith}
+use Rattle.std.proofs.Common.{◌≡◌, ℕ, ◌+◌, ◌%◌, ◌<◌, ◌≤◌, List, [], ◌∷◌, inl, inr, arith}
 use Rattle.std.specs.List.{AllByRecursion}
 use Rattle.std.proofs.lemmas.Bool.{cases_eq, cases_lt}
 use Rattle.std.proofs.lemmas.Bool.Decides.{nat_tests}
@@ -20,35 +20,13 @@ paired_as r same less =
       cost = omega (arith, r.cost);
     }
 
--- a link as seen from a corner at which it ends
-record From (W : Links) (p : Street) (a : ℕ) : Type 0 where
-  far : ℕ
-  link : W far a p.long
-  both : (k : ℕ) → ends p k ≡ mark far k + mark a k
-
--- a corner at which a link does not end is none of its ends
-apart : (p : Street) (a k : ℕ) → ends p a ≤ 0 → min (mark a k) (ends p k) ≡ 0
-apart p a k h = elim (cases_eq a k) [ inl e ↦ omega (arith, ap (λ (x : ℕ). ends p x) e) | inr n ↦ grind (arith, nat_tests) ]
-
 module _ (W : Links) (law : Linking W) where
-  seen_from : (p : Street) → W p.one p.other p.long → (a : ℕ) → 0 < ends p a → From W p a
+  -- a link as seen from a corner at which it ends
+  seen_from : (p : Street) → W p.one p.other p.long → (a : ℕ) → 0 < ends p a → (far : ℕ) × W far a p.long × ((k : ℕ) → ends p k ≡ mark far k + mark a k)
   seen_from p w a h =
       elim (cases_eq p.one a) [
-        | inl e ↦
-            let back = law.turned p.one p.other p.long w in
-            record { far = p.other; link = rw e at back; both = λ k. omega (arith, ap (λ (x : ℕ). mark x k) e) }
-        | inr n ↦
-            let e : p.other ≡ a = grind (arith, nat_tests) in
-            record { far = p.one; link = rw e at w; both = λ k. omega (arith, ap (λ (x : ℕ). mark x k) e) }
-      ]
-
-  -- the pair of a link, or none where it comes back to its corner
-  only : (a b n : ℕ) → W a b n → Paired W (λ k. mark a k + mark b k) n
-  unfolding total
-  only a b n w =
-      elim (cases_eq a b) [
-        | inl e ↦ record { pairs = []; pairing = record { each = λ k. omega (arith, ap (λ (x : ℕ). mark x k) e); linked = tt }; cost = omega arith }
-        | inr d ↦ record { pairs = joining a b n ∷ []; pairing = record { each = λ k. grind (arith, nat_tests); linked = (w, tt) }; cost = omega arith }
+        | inl e ↦ (p.other, rw e at (law.turned p.one p.other p.long w), λ k. grind (arith, e))
+        | inr n ↦ let e : p.other ≡ a = grind (arith, nat_tests) in (p.one, rw e at w, λ k. grind (arith, e))
       ]
 
   -- p goes, and a link that meets it at a goes on from its other corner
@@ -57,15 +35,19 @@ module _ (W : Links) (law : Linking W) where
       (a b n : ℕ) → W a b n → 0 < ends p a → Paired W (λ k. (ends p k + ends_left k) + (mark a k + mark b k)) ((p.long + left) + n)
   meet p w ends_left left on a b n v h =
       let s = seen_from p w a h in
-      paired_as (on s.far b (p.long + n) (law.joined s.far a b p.long n s.link v)) (λ k. omega (arith, s.both k)) (omega arith)
+      paired_as (on s.0 b (p.long + n) (law.joined s.0 a b p.long n s.1 v)) (λ k. omega (arith, s.2 k)) (omega arith)
 
-  -- A link is pushed down a list of pairs that have each corner at most once
+  -- A link is pushed down a list of pairs that have each corner at most once. At its end it is a pair itself, or none where it comes back to its corner
   pub exchange : (ps : List Street) →
       AllByRecursion (λ p. W p.one p.other p.long) ps →
       ((k : ℕ) → ends_at ps k ≤ 1) →
       (a b n : ℕ) → W a b n → Paired W (λ k. ends_at ps k + (mark a k + mark b k)) (all_long ps + n)
   unfolding total
-  exchange [] none once a b n w = paired_as (only a b n w) (λ k. omega arith) (omega arith)
+  exchange [] none once a b n w =
+      elim (cases_eq a b) [
+        | inl e ↦ record { pairs = []; pairing = record { each = λ k. grind (arith, e); linked = tt }; cost = omega arith }
+        | inr d ↦ record { pairs = joining a b n ∷ []; pairing = record { each = λ k. grind (arith, nat_tests); linked = (w, tt) }; cost = omega arith }
+      ]
   exchange (p ∷ ps) ws once a b n w =
       let on = exchange ps ws.1 (λ k. omega (arith, once k)) in
       elim (cases_lt 0 (ends p a)) [
@@ -76,7 +58,7 @@ module _ (W : Links) (law : Linking W) where
               | inr g ↦
                   let r = on a b n w in
                   let each : (k : ℕ) → ends_at (p ∷ r.pairs) k ≡ (ends_at (p ∷ ps) k + (mark a k + mark b k)) % 2 =
-                  λ k. omega (arith, r.pairing.each k, once k, apart p a k h, apart p b k g) in
+                  λ k. grind (arith, nat_tests, r.pairing.each k, once k) in
                   record { pairs = p ∷ r.pairs; pairing = record { each = each; linked = (ws.0, r.pairing.linked) }; cost = omega (arith, r.cost) }
             ]
       ]

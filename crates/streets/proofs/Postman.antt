@@ -1,10 +1,9 @@
 -- A shortest round: all streets, and the cheapest ways that join the odd corners in pairs.
-use Rattle.std.proofs.Common.{◌≡◌, ℕ, ◌+◌, ◌%◌, ◌≤◌, true, List, length, arith}
-use Rattle.streets.specs.Streets.{Street, Leg, is_round, how_long, ends, all_long, AtMostTwice}
+use Rattle.std.proofs.Common.{◌≡◌, ℕ, ◌+◌, ◌%◌, ◌≤◌, true, List, arith}
+use Rattle.streets.specs.Streets.{Leg, is_round, how_long, ends, all_long}
 use Rattle.streets.specs.Counts.{degree}
-use Rattle.streets.specs.Calls.{Shortest}
 use Rattle.streets.specs.Pairs.{Way, NoShorter}
-use Rattle.streets.specs.Theorems.{Joined, PairsBelow, MetricBelow, PairsAbove, Cheapest, Postman}
+use Rattle.streets.specs.Theorems.{PairsBelow, MetricBelow, PairsAbove, Postman}
 use Rattle.streets.proofs.Sums.{weigh_ones}
 use Rattle.streets.proofs.Reversal.{both_ways}
 use Rattle.streets.proofs.Links.{way_links, way_spans, metric_links}
@@ -27,21 +26,16 @@ pairs_above ss c ps j pairing =
     let r = joined_round ss u c j even (λ i l. (s.1.still i l).0) in
     (r.legs, r.goes_all, λ i l. omega (arith, r.counts i l, s.1.still i l), omega (arith, r.long, s.1.cost, weigh_ones ss (λ s. s.long)))
 
--- a shortest round is as long as all streets and the cheapest pairs
-cheapest_round : (ss : List Street) (c : ℕ) →
-    Joined ss c →
-    (ps : List Street) → Cheapest ss ps → (ls : List Leg) × Shortest ss c ls × AtMostTwice ls (length ss) × (how_long ss ls ≡ all_long ss + all_long ps)
-cheapest_round ss c j ps cheapest =
-    let r = pairs_above ss c ps j cheapest.pairing in
-    let bound : (ms : List Leg) → is_round ss c ms ≡ true → all_long ss + all_long ps ≤ how_long ss ms =
-    λ ms h. let q = pairs_below ss c ms h in omega (arith, q.2, cheapest.least q.0 q.1) in
-    (r.0, record { goes_all = r.1; least = λ ms h. omega (arith, r.3, bound ms h) }, r.2, omega (arith, r.3, bound r.0 r.1))
-
--- a shortest round has the cheapest pairs
-cheapest_of : (ss : List Street) (c : ℕ) → Joined ss c → (ls : List Leg) → Shortest ss c ls → (ps : List Street) × Cheapest ss ps
-cheapest_of ss c j ls short =
-    let q = pairs_below ss c ls short.goes_all in
-    (q.0, record { pairing = q.1; least = λ rs pairing. let r = pairs_above ss c rs j pairing in omega (arith, q.2, r.3, short.least r.0 r.1) })
-
 pub postman : Postman
-postman ss c j = let s = some_shortest ss c j in (cheapest_of ss c j s.0 s.1, cheapest_round ss c j)
+postman ss c j =
+    let s = some_shortest ss c j in
+    let q = pairs_below ss c s.0 s.1.goes_all in (
+      -- the cheapest pairs are those of a shortest round
+      (q.0, record { pairing = q.1; least = λ rs pairing. let r = pairs_above ss c rs j pairing in omega (arith, q.2, r.3, s.1.least r.0 r.1) }),
+      -- with any cheapest pairs there is one as long as all streets and they
+      λ ps cheapest.
+          let r = pairs_above ss c ps j cheapest.pairing in
+          let bound : (ms : List Leg) → is_round ss c ms ≡ true → all_long ss + all_long ps ≤ how_long ss ms =
+          λ ms h. let q = pairs_below ss c ms h in omega (arith, q.2, cheapest.least q.0 q.1) in
+          (r.0, record { goes_all = r.1; least = λ ms h. omega (arith, r.3, bound ms h) }, r.2, omega (arith, r.3, bound r.0 r.1)),
+    )

@@ -1,10 +1,11 @@
 -- Rounds from counts, and what a shortest round uses.
-use Rattle.std.proofs.Common.{◌≡◌, ℕ, suc, ◌+◌, ◌-◌, ◌*◌, ◌%◌, ◌<◌, ◌≤◌, Bool, true, false, cond, eqb, List, [], ◌∷◌, ◌++◌, length, refl, ap, ◌∙◌, inl, inr, arith}
+use Rattle.std.proofs.Common.{◌≡◌, ℕ, suc, ◌+◌, ◌-◌, ◌%◌, ◌<◌, ◌≤◌, true, List, [], ◌∷◌, ◌++◌, length, refl, ◌∙◌, inl, inr, arith}
 use Rattle.std.proofs.lemmas.Bool.{cases_lt}
 use Rattle.std.proofs.lemmas.Bool.Decides.{nat_tests}
-use Rattle.streets.specs.Streets.{Street, street, Leg, forward, goes, how_long, times, is_round, mark, ends, total, ends_at}
+use Rattle.streets.specs.Streets.{Street, street, Leg, forward, goes, how_long, times, is_round, mark, ends, total, ends_at, all_long}
 use Rattle.streets.specs.Counts.{sum_below, weigh, degree, stretch, Connected}
-use Rattle.streets.specs.Theorems.{Joined, ARound, NeverThrice, FromAnywhere, twice_gone, JoinsOdd}
+use Rattle.streets.specs.Calls.{Shortest}
+use Rattle.streets.specs.Theorems.{Joined, ARound, positive, NeverThrice, FromAnywhere, twice_gone}
 use Rattle.streets.proofs.Sums.{weigh_split, weigh_same, weigh_some, weigh_front, weigh_ones, weigh_twos, weigh_parity, some_street}
 use Rattle.streets.proofs.Legs.{leg_there, starts_end}
 use Rattle.streets.proofs.Walks.{step, goes-append, times-append, long_append, by_counts, used_there, cut}
@@ -95,10 +96,10 @@ module _ (ss : List Street) where
         let a = p.before in
         let b = p.behind in
         let covers : (i : ℕ) → i < length ss → 0 < times (b ++ a) i =
-        λ i l. omega (arith, r.covers i l, times-append b a i, times-append a b i, ap (λ (ms : List Leg). times ms i) p.whole) in (
+        λ i l. grind (arith, r.covers i l, times-append b a i, times-append a b i, p.whole) in (
           b ++ a,
           to_round ss d (b ++ a) (record { walks = goes-append ss d b c a d p.from p.to; covers = covers }),
-          omega (arith, long_append ss b a, long_append ss a b, ap (λ (ms : List Leg). how_long ss ms) p.whole),
+          grind (arith, long_append ss b a, long_append ss a b, p.whole),
         )
 
 pub a_round : ARound
@@ -131,11 +132,6 @@ from_anywhere ss c d ls short f =
     λ ks h. let s = rotated ss d ks h c e in omega (arith, r.2, s.2, short.least s.0 s.1) in
     (r.0, record { goes_all = r.1; least = least }, r.2)
 
-kept : (f : Street → ℕ) (b : Bool) (s : Street) (ss : List Street) → total f (cond b (s ∷ ss) ss) ≡ cond b 1 0 * f s + total f ss
-unfolding total
-kept f true s ss = omega arith
-kept f false s ss = omega arith
-
 -- the streets with two legs, by counts
 twice_total : (f : Street → ℕ) (ss : List Street) (ls : List Leg) (j : ℕ) (t : ℕ → ℕ) →
     ((i : ℕ) → t i ≡ mark (times ls (j + i)) 2) →
@@ -143,22 +139,20 @@ twice_total : (f : Street → ℕ) (ss : List Street) (ls : List Leg) (j : ℕ) 
 unfolding total twice_gone weigh sum_below
 twice_total f [] ls j t e = refl
 twice_total f (s ∷ ss) ls j t e =
-    let r = twice_total f ss ls (suc j) (λ i. t (suc i)) (λ i. e (suc i) ∙ ap (λ (k : ℕ). mark (times ls k) 2) (omega arith)) in
-    let here : t 0 ≡ mark (times ls j) 2 = e 0 ∙ ap (λ (k : ℕ). mark (times ls k) 2) (omega arith) in
-    omega (arith, kept f (eqb (times ls j) 2) s (twice_gone ss ls (suc j)), weigh_front s ss f t, ap (λ (x : ℕ). x * f s) here)
+    grind (arith, nat_tests, e 0, weigh_front s ss f t, twice_total f ss ls (suc j) (λ i. t (suc i)) (λ i. grind (arith, e (suc i))))
 
--- each street once, and some of them again
-once_and_again : (ss : List Street) (f : Street → ℕ) (ls : List Leg) →
-    ((i : ℕ) → i < length ss → (0 < times ls i) × (times ls i ≤ 2)) →
-    weigh ss f (times ls) ≡ total f ss + total f (twice_gone ss ls 0)
-once_and_again ss f ls few =
-    let t : ℕ → ℕ = λ i. mark (times ls i) 2 in
-    let split = weigh_split ss f (times ls) (λ _. 1) t (λ i l. let a = few i l in grind (arith, nat_tests)) in
-    omega (arith, weigh_ones ss f, twice_total f ss ls 0 t (λ i. ap (λ (k : ℕ). mark (times ls k) 2) (omega arith)))
+module _ (ss : List Street) (c : ℕ) (ls : List Leg) (pos : positive ss ≡ true) (short : Shortest ss c ls) where
+  -- each street once, and some of them again
+  once_and_again : (f : Street → ℕ) → weigh ss f (times ls) ≡ total f ss + total f (twice_gone ss ls 0)
+  once_and_again f =
+      let r = from_round ss c ls short.goes_all in
+      let t : ℕ → ℕ = λ i. mark (times ls i) 2 in
+      let split = weigh_split ss f (times ls) (λ _. 1) t (λ i l. grind (arith, nat_tests, r.covers i l, never_thrice ss c i ls pos short)) in
+      omega (arith, weigh_ones ss f, twice_total f ss ls 0 t (λ i. grind arith))
 
-pub joins_odd : JoinsOdd
-joins_odd ss c k ls pos short =
-    let h = short.goes_all in
-    let r = from_round ss c ls h in
-    let split = λ (f : Street → ℕ). once_and_again ss f ls (λ i l. (r.covers i l, never_thrice ss c i ls pos short)) in
-    (omega (arith, split (λ s. ends s k), round_even ss c ls h k), by_counts ss c ls c r.walks ∙ split (λ s. s.long))
+  -- so the streets that it repeats are a T-join of the odd corners
+  pub repeats_join : (k : ℕ) → ends_at (twice_gone ss ls 0) k % 2 ≡ ends_at ss k % 2
+  repeats_join k = omega (arith, once_and_again (λ s. ends s k), round_even ss c ls short.goes_all k)
+
+  pub repeats_long : how_long ss ls ≡ all_long ss + all_long (twice_gone ss ls 0)
+  repeats_long = by_counts ss c ls c (from_round ss c ls short.goes_all).walks ∙ once_and_again (λ s. s.long)

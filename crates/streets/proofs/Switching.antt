@@ -1,9 +1,9 @@
 -- Counts of one or two for each street, switched along walks.
-use Rattle.std.proofs.Common.{◌≡◌, ℕ, ◌+◌, ◌-◌, ◌%◌, ◌<◌, true, cond, eqb, ◌⊎◌, List, [], ◌∷◌, length, sym, refl, ap, inl, inr, arith}
+use Rattle.std.proofs.Common.{◌≡◌, ℕ, ◌+◌, ◌-◌, ◌%◌, ◌<◌, true, cond, eqb, ◌⊎◌, List, [], ◌∷◌, length, sym, refl, inl, inr, arith}
 use Rattle.std.specs.List.{AllByRecursion}
-use Rattle.std.proofs.lemmas.Bool.{cases_eq, cases_lt}
+use Rattle.std.proofs.lemmas.Bool.{cases_lt}
 use Rattle.std.proofs.lemmas.Bool.Decides.{nat_tests}
-use Rattle.streets.specs.Streets.{Street, street, Leg, may_go, leg_long, starts, stops, goes, how_long, mark, ends, total, ends_at, all_long}
+use Rattle.streets.specs.Streets.{Street, street, Leg, stops, goes, how_long, mark, ends, total, ends_at, all_long}
 use Rattle.streets.specs.Counts.{weigh, OnceOrTwice, Switched}
 use Rattle.streets.specs.Pairs.{Way}
 use Rattle.streets.proofs.Sums.{one_more, weigh_more}
@@ -11,10 +11,6 @@ use Rattle.streets.proofs.Legs.{leg_there, leg_ends, leg_as_long}
 use Rattle.streets.proofs.Walks.{step, stands}
 
 module _ (ss : List Street) where
-  -- nothing switched
-  pub unswitched : (t : ℕ → ℕ) → OnceOrTwice ss t → (added : ℕ → ℕ) → ((k : ℕ) → added k % 2 ≡ 0) → Switched ss t added 0 t
-  unswitched t once added even = record { still = once; parity = λ k. omega (arith, even k); cost = omega arith }
-
   -- one after the other
   pub switched_on : {t u v f g h : ℕ → ℕ} {m n : ℕ} →
       Switched ss t f m u →
@@ -41,24 +37,10 @@ module _ (ss : List Street) where
       pub switched_street : Switched ss t (ends (street ss e)) (street ss e).long u
       switched_street =
           record {
-            still = λ i l. elim (cases_eq e i) [ inl s ↦ omega (arith, here, ap t s, ap u s, once e e_there) | inr n ↦ omega (arith, else_same i n, once i l) ];
+            still = λ i l. grind (arith, else_same i, once i l);
             parity = λ k. omega (arith, weighs (λ s. ends s k));
             cost = omega (arith, weighs (λ s. s.long));
           }
-
-  switch : (ℕ → ℕ) → ℕ → ℕ → ℕ
-  switch t e i = cond (eqb e i) (3 - t i) (t i)
-
-  switched_leg : (t : ℕ → ℕ) (l : Leg) →
-      OnceOrTwice ss t →
-      may_go ss l ≡ true →
-      Switched ss t (λ k. mark (starts ss l) k + mark (stops ss l) k) (leg_long ss l) (switch t l.along)
-  unfolding switch
-  switched_leg t l once may =
-      let e = l.along in
-      let o = once e (leg_there ss l may) in
-      let s = switched_street t (switch t e) e (leg_there ss l may) once (grind (arith, nat_tests)) (λ i n. grind (arith, nat_tests)) in
-      record { still = s.still; parity = λ k. omega (arith, s.parity k, leg_ends ss l k); cost = omega (arith, s.cost, leg_as_long ss l) }
 
   -- along a walk
   switched_walk : (t : ℕ → ℕ) (a : ℕ) (ls : List Leg) (b : ℕ) →
@@ -66,12 +48,15 @@ module _ (ss : List Street) where
       goes ss a ls b ≡ true →
       (u : ℕ → ℕ) × Switched ss t (λ k. mark a k + mark b k) (how_long ss ls) u
   unfolding how_long
-  switched_walk t a [] b once h = (t, unswitched t once (λ k. mark a k + mark b k) (λ k. omega (arith, ap (λ (x : ℕ). mark x k) (stands ss a b h))))
+  switched_walk t a [] b once h = (t, record { still = once; parity = λ k. grind (arith, stands ss a b h); cost = omega arith })
   switched_walk t a (l ∷ ls) b once h =
       let s = step ss a l ls b h in
-      let first = switched_leg t l once s.may in
-      let rest = switched_walk (switch t l.along) (stops ss l) ls b first.still s.on in
-      (rest.0, switched_on first rest.1 (λ k. omega (arith, ap (λ (x : ℕ). mark x k) s.here)))
+      let there = leg_there ss l s.may in
+      let few = once l.along there in
+      let u : ℕ → ℕ = λ i. cond (eqb l.along i) (3 - t i) (t i) in
+      let first = switched_street t u l.along there once (grind (arith, nat_tests)) (λ i n. grind (arith, nat_tests)) in
+      let rest = switched_walk u (stops ss l) ls b first.still s.on in
+      (rest.0, rw (leg_as_long ss l) (switched_on {v = rest.0} first rest.1 (λ k. grind (arith, s.here, leg_ends ss l k))))
 
   -- along ways between the corners of pairs
   pub switched_pairs : (t : ℕ → ℕ) (ps : List Street) →
@@ -79,7 +64,7 @@ module _ (ss : List Street) where
       AllByRecursion (λ p. Way ss p.one p.other p.long) ps →
       (u : ℕ → ℕ) × Switched ss t (ends_at ps) (all_long ps) u
   unfolding total
-  switched_pairs t [] once ws = (t, unswitched t once (ends_at []) (λ k. refl))
+  switched_pairs t [] once ws = (t, record { still = once; parity = λ k. omega arith; cost = omega arith })
   switched_pairs t (p ∷ ps) once ws =
       let w = ws.0 in
       let first = switched_walk t p.one w.0 p.other once w.1 in

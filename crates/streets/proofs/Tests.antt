@@ -1,8 +1,8 @@
 -- The tests of the definitions, each as the fact that it decides.
-use Rattle.std.proofs.Common.{◌≡◌, ℕ, zero, suc, ◌%◌, ◌<◌, true, ◌&&◌, eqb, ltb, List, [], ◌∷◌, length, Decides, refl, arith}
-use Rattle.std.proofs.lemmas.Bool.{and_parts, and_from, ltb-true, lt-ltb}
+use Rattle.std.proofs.Common.{◌≡◌, ℕ, zero, suc, ◌%◌, ◌<◌, true, ◌&&◌, eqb, ltb, List, length, Decides, refl, arith}
 use Rattle.std.proofs.lemmas.Bool.Decides.{nat_tests, Decides-ltb, Decides-eqb, Decides-below_and}
-use Rattle.streets.specs.Streets.{Street, street, Leg, goes, times, all_gone, is_round, ends_at, odd_corners}
+use Rattle.std.proofs.lemmas.List.Recursion.{and_at, and_from_places}
+use Rattle.streets.specs.Streets.{Street, street, joining, Leg, goes, times, all_gone, is_round, ends_at, odd_corners}
 use Rattle.streets.specs.Counts.{sum_below}
 use Rattle.streets.specs.Theorems.{in_town, once_each, positive}
 
@@ -20,29 +20,21 @@ pub record Round (ss : List Street) (c : ℕ) (ls : List Leg) : Type 0 where
   pub covers : (i : ℕ) → i < length ss → 0 < times ls i
 
 pub from_round : (ss : List Street) (c : ℕ) (ls : List Leg) → is_round ss c ls ≡ true → Round ss c ls
-from_round ss c ls h =
-    let p = and_parts (goes ss c ls c) (all_gone ls (length ss)) h in
-    record { walks = p.0; covers = (all_gone_decides ls (length ss)).0 p.1 }
+from_round ss c ls h = record { walks = grind (arith, nat_tests); covers = (all_gone_decides ls (length ss)).0 (grind (arith, nat_tests)) }
 
 pub to_round : (ss : List Street) (c : ℕ) (ls : List Leg) → Round ss c ls → is_round ss c ls ≡ true
-to_round ss c ls r = and_from (goes ss c ls c) (all_gone ls (length ss)) r.walks ((all_gone_decides ls (length ss)).1 r.covers)
+to_round ss c ls r = grind (arith, nat_tests, (all_gone_decides ls (length ss)).1 r.covers)
 
 pub positive_at : (ss : List Street) → positive ss ≡ true → (i : ℕ) → i < length ss → 0 < (street ss i).long
 unfolding positive
-positive_at [] h i l = absurd (omega arith)
-positive_at (s ∷ ss) h zero l = ltb-true 0 s.long (and_parts (ltb 0 s.long) (positive ss) h).0
-positive_at (s ∷ ss) h (suc i) l = positive_at ss (and_parts (ltb 0 s.long) (positive ss) h).1 i (omega arith)
+positive_at ss h i l = grind (arith, nat_tests, and_at positive (λ s. ltb 0 s.long) refl (λ _ _. refl) ss i (joining 0 0 0) l h)
 
 pub in_town_from : (n : ℕ) (ss : List Street) → ((i : ℕ) → i < length ss → ((street ss i).one < n) × ((street ss i).other < n)) → in_town n ss ≡ true
 unfolding in_town
-in_town_from n [] h = refl
-in_town_from n (s ∷ ss) h =
-    let p = h 0 (omega arith) in
-    let here = and_from (ltb s.one n) (ltb s.other n) (lt-ltb s.one n p.0) (lt-ltb s.other n p.1) in
-    and_from (ltb s.one n && ltb s.other n) (in_town n ss) here (in_town_from n ss (λ i l. h (suc i) (omega arith)))
+in_town_from n ss h = and_from_places (in_town n) (λ s. ltb s.one n && ltb s.other n) refl (λ _ _. refl) ss (joining 0 0 0) (λ i l. grind (arith, nat_tests, h i l))
 
 -- how many corners are odd, as a sum
 pub odd_sum : (ss : List Street) (n : ℕ) → odd_corners ss n ≡ sum_below (λ k. ends_at ss k % 2) n
 unfolding odd_corners sum_below
 odd_sum ss zero = refl
-odd_sum ss (suc n) = let r = odd_sum ss n in grind (arith, nat_tests)
+odd_sum ss (suc n) = grind (arith, nat_tests, odd_sum ss n)

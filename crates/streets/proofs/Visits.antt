@@ -1,11 +1,11 @@
 -- The Eulerian recursion: a visit by its two cases, that there is one, and that it leaves nothing where all hangs together.
-use Rattle.std.proofs.Common.{◌≡◌, ℕ, zero, suc, ◌+◌, ◌-◌, ◌<◌, ◌≤◌, true, List, [], ◌∷◌, ◌++◌, length, ap, inl, inr, arith}
-use Rattle.std.proofs.lemmas.Bool.{cases_eq, cases_lt}
+use Rattle.std.proofs.Common.{◌≡◌, ℕ, zero, suc, ◌+◌, ◌-◌, ◌<◌, ◌≤◌, true, List, [], ◌∷◌, ◌++◌, length, inl, inr, arith}
+use Rattle.std.proofs.lemmas.Bool.{cases_lt}
 use Rattle.std.proofs.lemmas.Bool.Decides.{nat_tests}
-use Rattle.streets.specs.Streets.{Street, street, Leg, forward, backward, may_go, goes, starts, stops, mark, times, ends}
+use Rattle.streets.specs.Streets.{Street, street, Leg, forward, may_go, goes, starts, stops, leaving, mark, times, ends}
 use Rattle.streets.specs.Counts.{weigh, degree, EvenBut, Connected, Visit}
 use Rattle.streets.proofs.Sums.{ones, taken, weigh_split, weigh_more, weigh_some, weigh_nothing, some_street}
-use Rattle.streets.proofs.Legs.{leg_there, leg_may, leg_ends, starts_end, stops_end, leg_at}
+use Rattle.streets.proofs.Legs.{leg_there, leg_may, leg_ends, starts_end, stops_end, leaving_starts}
 use Rattle.streets.proofs.Walks.{step, go_on, stands, stay, goes-append, times-append, weigh_none, weigh_leg}
 
 record Visited (ss : List Street) (left : ℕ → ℕ) (v w : ℕ) : Type 0 where
@@ -22,11 +22,8 @@ module _ (ss : List Street) where
       record {
         walks = rw same (stay ss w);
         split = λ i. omega arith;
-        even = λ k. omega (arith, even k, ap (λ (x : ℕ). mark x k) same);
-        bare =
-            λ k.
-            let z = weigh_none ss (λ s. ends s k) in
-            elim (cases_eq v k) [ inl e ↦ omega (arith, ap (λ (x : ℕ). degree ss left x) e) | inr n ↦ grind (arith, nat_tests) ];
+        even = λ k. grind (arith, even k, same);
+        bare = λ k. grind (arith, nat_tests, none, weigh_none ss (λ s. ends s k));
       }
 
   module _
@@ -49,65 +46,54 @@ module _ (ss : List Street) where
             bare =
                 λ k.
                 let f : Street → ℕ = λ s. ends s k in
-                omega (
+                grind (
                   arith,
+                  here,
                   first.bare k,
                   second.bare k,
                   weigh_split ss f (times (home ++ l ∷ on)) (times home) (times (l ∷ on)) (λ i _. times-append home (l ∷ on) i),
                   weigh_leg ss f l on may,
                   weigh_split ss f rest (times home) last (λ i _. second.split i),
                   leg_ends ss l k,
-                  ap (λ (x : ℕ). mark x k) here,
                 );
           }
 
       -- what is left after the leg can be a walk from where it stops
       pub leg_even : EvenBut ss left v w → EvenBut ss less (stops ss l) w
       leg_even even k =
-          let more = weigh_more ss (λ s. ends s k) less left l.along (leg_there ss l may) split in
-          omega (arith, even k, leg_ends ss l k, ap (λ (x : ℕ). mark x k) here)
+          grind (arith, even k, leg_ends ss l k, here, weigh_more ss (λ s. ends s k) less left l.along (leg_there ss l may) split)
 
   -- where something is left at a corner, a leg of it starts there
   some_leg : (left : ℕ → ℕ) (v : ℕ) → 0 < degree ss left v → (l : Leg) × (may_go ss l ≡ true) × (0 < left l.along) × (starts ss l ≡ v)
   some_leg left v h =
       let r = some_street ss (λ s. ends s v) left h in
-      elim (leg_at ss (forward r.0) v r.3) [
-        | inl b ↦ (forward r.0, leg_may ss (forward r.0) r.1, r.2, b)
-        | inr b ↦ (backward r.0, leg_may ss (backward r.0) r.1, r.2, b)
-      ]
-
-  visit_leg : (bound : ℕ) (left : ℕ → ℕ) (v w : ℕ) →
-      ((u : ℕ → ℕ) (x y : ℕ) → weigh ss ones u ≤ bound → EvenBut ss u x y → Visited ss u x y) →
-      weigh ss ones left ≤ suc bound →
-      EvenBut ss left v w →
-      (l : Leg) → may_go ss l ≡ true → 0 < left l.along → starts ss l ≡ v → Visited ss left v w
-  visit_leg bound left v w visit few even l may some here =
-      let less : ℕ → ℕ = λ i. left i - mark l.along i in
-      let split = taken left l.along some in
-      let more = weigh_more ss ones less left l.along (leg_there ss l may) split in
-      let on = visit less (stops ss l) w (omega arith) (leg_even left less v w l may here split even) in
-      let fewer = weigh_split ss ones less (times on.walk) on.rest (λ i _. on.seen.split i) in
-      let home = visit on.rest v v (omega arith) (λ k. omega (arith, on.seen.even k)) in
-      record { walk = home.walk ++ l ∷ on.walk; rest = home.rest; seen = join left less v w l may here split on.seen home.seen }
+      let l = leaving ss v r.0 in
+      (l, leg_may ss l r.1, r.2, leaving_starts ss v r.0 r.3)
 
   visit_from : (bound : ℕ) (left : ℕ → ℕ) (v w : ℕ) → weigh ss ones left ≤ bound → EvenBut ss left v w → Visited ss left v w
   visit_from zero left v w few even = record { walk = []; rest = left; seen = stop left v w even (weigh_nothing ss (λ s. ends s v) left few) }
   visit_from (suc bound) left v w few even =
       elim (cases_lt 0 (degree ss left v)) [
-        | inl m ↦ let r = some_leg left v m in visit_leg bound left v w (visit_from bound) few even r.0 r.1 r.2 r.3
+        | inl m ↦
+            let r = some_leg left v m in
+            let l = r.0 in
+            let less : ℕ → ℕ = λ i. left i - mark l.along i in
+            let split = taken left l.along r.2 in
+            let more = weigh_more ss ones less left l.along (leg_there ss l r.1) split in
+            let on = visit_from bound less (stops ss l) w (omega arith) (leg_even left less v w l r.1 r.3 split even) in
+            let fewer = weigh_split ss ones less (times on.walk) on.rest (λ i _. on.seen.split i) in
+            let home = visit_from bound on.rest v v (omega arith) (λ k. omega (arith, on.seen.even k)) in
+            let seen = join left less v w l r.1 r.3 split {on = on.walk} {home = home.walk} {rest = on.rest} {last = home.rest} on.seen home.seen in
+            record { walk = home.walk ++ l ∷ on.walk; rest = home.rest; seen = seen }
         | inr m ↦ record { walk = []; rest = left; seen = stop left v w even (omega arith) }
       ]
 
-  visit : (left : ℕ → ℕ) (v w : ℕ) → EvenBut ss left v w → Visited ss left v w
-  visit left v w even = visit_from (weigh ss ones left) left v w (omega arith) even
-
   module _ {left rest : ℕ → ℕ} {v w : ℕ} {walk : List Leg} (seen : Visit ss left v w walk rest) where
     -- a corner of the walk
-    Touched : ℕ → Type 0
+    abbrev Touched : ℕ → Type 0
     Touched k = 0 < mark v k + degree ss (times walk) k
 
     touched_on : (l : Leg) → may_go ss l ≡ true → 0 < left l.along → Touched (starts ss l) → Touched (stops ss l)
-    unfolding Touched
     touched_on l may some here =
         let e = l.along in
         elim (cases_lt 0 (times walk e)) [
@@ -128,7 +114,6 @@ module _ (ss : List Street) where
 
     -- where all that was left hangs together, nothing is left over
     pub nothing_left : Connected ss left v → (i : ℕ) → i < length ss → rest i ≡ 0
-    unfolding Touched
     nothing_left all i l =
         elim (cases_lt 0 (rest i)) [
           | inl m ↦
@@ -145,5 +130,5 @@ module _ (ss : List Street) where
       Connected ss t v →
       (ls : List Leg) × (goes ss v ls w ≡ true) × ((i : ℕ) → i < length ss → times ls i ≡ t i)
   remade t v w even all =
-      let r = visit t v w even in
+      let r = visit_from (weigh ss ones t) t v w (omega arith) even in
       (r.walk, r.seen.walks, λ i l. omega (arith, r.seen.split i, nothing_left r.seen all i l))

@@ -1,6 +1,6 @@
 -- Walks: taken apart at their first leg, joined, cut at a corner, and weighed by how often they use each street.
-use Rattle.std.proofs.Common.{◌≡◌, ℕ, ◌+◌, ◌<◌, true, ◌&&◌, eqb, List, [], ◌∷◌, ◌++◌, length, sym, refl, ap, ◌∙◌, inl, inr, arith}
-use Rattle.std.proofs.lemmas.Bool.{and_parts, and_from, eqb-true, eq-eqb, cases_lt}
+use Rattle.std.proofs.Common.{◌≡◌, ℕ, ◌+◌, ◌<◌, true, List, [], ◌∷◌, ◌++◌, length, sym, refl, ◌∙◌, inl, inr, arith}
+use Rattle.std.proofs.lemmas.Bool.{eqb-true, eq-eqb, cases_lt}
 use Rattle.std.proofs.lemmas.Bool.Decides.{nat_tests}
 use Rattle.streets.specs.Streets.{Street, street, Leg, may_go, goes, starts, stops, how_long, times, ends}
 use Rattle.streets.specs.Counts.{weigh, stretch}
@@ -24,21 +24,16 @@ pub record Cut (ss : List Street) (c : ℕ) (ls : List Leg) (d k : ℕ) : Type 0
 pub times-append : (ls ms : List Leg) (i : ℕ) → times (ls ++ ms) i ≡ times ls i + times ms i
 unfolding times
 times-append [] ms i = omega arith
-times-append (l ∷ ls) ms i = let r = times-append ls ms i in omega arith
+times-append (l ∷ ls) ms i = omega (arith, times-append ls ms i)
 
 module _ (ss : List Street) where
   pub step : (c : ℕ) (l : Leg) (ls : List Leg) (d : ℕ) → goes ss c (l ∷ ls) d ≡ true → Step ss c l ls d
   unfolding goes
-  step c l ls d h =
-      let p = and_parts (may_go ss l && eqb (starts ss l) c) (goes ss (stops ss l) ls d) h in
-      let q = and_parts (may_go ss l) (eqb (starts ss l) c) p.0 in
-      record { may = q.0; here = eqb-true (starts ss l) c q.1; on = p.1 }
+  step c l ls d h = record { may = grind (arith, nat_tests); here = grind (arith, nat_tests); on = grind (arith, nat_tests) }
 
   pub go_on : (c : ℕ) (l : Leg) (ls : List Leg) (d : ℕ) → Step ss c l ls d → goes ss c (l ∷ ls) d ≡ true
   unfolding goes
-  go_on c l ls d s =
-      let first = and_from (may_go ss l) (eqb (starts ss l) c) s.may (eq-eqb (starts ss l) c s.here) in
-      and_from (may_go ss l && eqb (starts ss l) c) (goes ss (stops ss l) ls d) first s.on
+  go_on c l ls d s = grind (arith, nat_tests)
 
   pub stands : (c d : ℕ) → goes ss c [] d ≡ true → c ≡ d
   unfolding goes
@@ -60,15 +55,16 @@ module _ (ss : List Street) where
   pub long_append : (ls ms : List Leg) → how_long ss (ls ++ ms) ≡ how_long ss ls + how_long ss ms
   unfolding how_long
   long_append [] ms = omega arith
-  long_append (l ∷ ls) ms = let r = long_append ls ms in omega arith
+  long_append (l ∷ ls) ms = omega (arith, long_append ls ms)
 
   -- a walk of one leg
   pub one_leg : (l : Leg) → may_go ss l ≡ true → goes ss (starts ss l) (l ∷ []) (stops ss l) ≡ true
-  one_leg l h = go_on (starts ss l) l [] (stops ss l) (record { may = h; here = refl; on = stay (stops ss l) })
+  unfolding goes
+  one_leg l h = grind (arith, nat_tests)
 
   pub weigh_none : (f : Street → ℕ) → weigh ss f (times []) ≡ 0
   unfolding times
-  weigh_none f = let e = weigh_split ss f (times []) (times []) (times []) (λ i l. refl) in omega arith
+  weigh_none f = omega (arith, weigh_split ss f (times []) (times []) (times []) (λ i l. refl))
 
   pub weigh_leg : (f : Street → ℕ) (l : Leg) (ls : List Leg) →
       may_go ss l ≡ true →
@@ -82,8 +78,7 @@ module _ (ss : List Street) where
   by_counts c [] d h = sym (weigh_none (λ s. s.long))
   by_counts c (l ∷ ls) d h =
       let s = step c l ls d h in
-      let r = by_counts (stops ss l) ls d s.on in
-      omega (arith, weigh_leg (λ s. s.long) l ls s.may, leg_as_long ss l)
+      omega (arith, by_counts (stops ss l) ls d s.on, weigh_leg (λ s. s.long) l ls s.may, leg_as_long ss l)
 
   -- it uses only streets that are there
   pub used_there : (c : ℕ) (ls : List Leg) (d i : ℕ) → goes ss c ls d ≡ true → 0 < times ls i → i < length ss
@@ -99,7 +94,7 @@ module _ (ss : List Street) where
       record {
         before = l ∷ r.before;
         behind = r.behind;
-        whole = ap {B = List Leg} (λ ms. l ∷ ms) r.whole;
+        whole = cc;
         to = go_on c l r.before k (record { may = s.may; here = s.here; on = r.to });
         from = r.from;
       }

@@ -20,6 +20,7 @@ pub fn from_anywhere()
     ensures { FromAnywhere }
 {}
 
+#[tactic(auto, using(crate::proofs::Rounds::repeats_join, crate::proofs::Rounds::repeats_long))]
 pub fn joins_odd()
     ensures { JoinsOdd }
 {}

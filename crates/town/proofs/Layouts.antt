@@ -11,7 +11,7 @@ use Rattle.streets.proofs.Tests.{in_town_from}
 use Rattle.streets.proofs.Degrees.{two_ends, none_past}
 use Rattle.town.specs.Corners.{ends_before}
 use Rattle.town.specs.Layout.{corners_at, limit_at, count_at, word, limits_in, count_in, street_from, street_in, streets_in, words}
-use Rattle.town.specs.Town.{Proper, Front, Town}
+use Rattle.town.specs.Town.{Proper, Front, Ready, Town}
 use Rattle.town.proofs.Ends.{before_upto}
 
 -- the limits, from their words
@@ -77,6 +77,9 @@ module _ (l : Limits) (m : List ℕ) (ss : List Street) (r : Front l m ss) where
 
   pub as_known : (P : Limits → List Street → Type 0) → P (limits_in m) (streets_in m) → P l ss
   as_known P p = subst (λ (x : Limits). P x ss) r.limits (subst (P (limits_in m)) r.streets p)
+
+  pub ready : Ready m
+  ready = as_read (λ x y. Front x m y) r
 
   -- the town in a memory that the lists were written to
   pub relisted : (m' : List ℕ) → Town (limits_in m) m' (streets_in m) → Town l m' ss

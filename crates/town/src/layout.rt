@@ -11,6 +11,7 @@ ghost use Rattle.town.specs.Meaning.{as_limits};
 ghost use Rattle.town.specs.Changes.{in_range};
 
 use super::limit::Limits;
+use super::reading::TownRef;
 use streets::Street;
 
 const MOST_CORNERS: u32 = 256;
@@ -38,7 +39,7 @@ const LIST_WORDS: usize = 2;
 fn street_from(i: u16) -> usize
     ensures { result ≡ street_from i }
 {
-    HEAD_WORDS + STREET_WORDS * i as usize
+    HEAD_WORDS + STREET_WORDS * usize::from(i)
 }
 
 impl Limits {
@@ -63,7 +64,7 @@ impl Limits {
     pub(crate) fn lists_from(self) -> usize
         ensures { result ≡ lists_from (as_limits self) }
     {
-        self.starts_from() + CORNER_WORDS * self.corners as usize + 1
+        self.starts_from() + CORNER_WORDS * usize::from(self.corners) + 1
     }
 
     // How many words of memory a town with these limits asks for.
@@ -71,7 +72,7 @@ impl Limits {
         ensures is { result ≡ words (as_limits self) }
         ensures within { 4 * result ≤ budget (as_limits self) }
     {
-        self.lists_from() + LIST_WORDS * self.streets as usize
+        self.lists_from() + LIST_WORDS * usize::from(self.streets)
     }
 }
 
@@ -80,87 +81,98 @@ pub fn put_head(memory: &mut [u32], limits: Limits)
     requires { words (as_limits limits) ≤ length memory.old }
     ensures { Front (as_limits limits) memory.new [] }
 {
-    memory[CORNERS] = limits.corners as u32;
-    memory[LIMIT] = limits.streets as u32;
+    memory[CORNERS] = u32::from(limits.corners);
+    memory[LIMIT] = u32::from(limits.streets);
     memory[COUNT] = 0;
 }
 
-pub fn limits(memory: &[u32]) -> Limits
-    requires { Ready memory.now }
-    ensures { as_limits result ≡ limits_in memory.now }
-{
-    Limits {
-        corners: memory[CORNERS] as u16,
-        streets: memory[LIMIT] as u16,
+// Head and streets of a town. The corners' lists need not be those of its streets.
+#[derive(Clone, Copy)]
+pub struct Head<'m> {
+    pub memory: &'m [u32],
+    pub ghost ready: { Ready memory.now },
+}
+
+impl Head<'_> {
+    pub fn limits(&self) -> Limits
+        ensures { as_limits result ≡ limits_in self.now.memory.now }
+    {
+        Limits {
+            corners: self.memory[CORNERS] as u16,
+            streets: self.memory[LIMIT] as u16,
+        }
+    }
+
+    // How many words the town has.
+    pub fn words(&self) -> usize
+        ensures { result ≡ words (limits_in self.now.memory.now) }
+    {
+        self.limits().words()
+    }
+
+    // The place of the first word that says where a corner's list stops.
+    pub fn stops_from(&self) -> usize
+        ensures { result ≡ suc (starts_from (limits_in self.now.memory.now)) }
+    {
+        self.limits().starts_from() + 1
+    }
+
+    // How many words behind that place the lists begin.
+    pub fn lists_behind(&self) -> usize
+        ensures { result ≡ corner_words * (limits_in self.now.memory.now).corners }
+    {
+        CORNER_WORDS * usize::from(self.corners())
+    }
+
+    pub fn corners(&self) -> u16
+        ensures { result ≡ (limits_in self.now.memory.now).corners }
+    {
+        self.limits().corners
+    }
+
+    #[tactic(auto, using(crate::proofs::Layouts::count_word, crate::proofs::Layouts::count_short))]
+    pub fn count(&self) -> u16
+        ensures { result ≡ length (streets_in self.now.memory.now) }
+    {
+        self.memory[COUNT] as u16
+    }
+
+    pub fn street(&self, i: u16) -> Street
+        requires { i < length (streets_in self.now.memory.now) }
+        ensures { as_street result ≡ street (streets_in self.now.memory.now) i }
+    {
+        let at = street_from(i);
+        Street::new(
+            self.memory[at] as u16,
+            self.memory[at + 1] as u16,
+            self.memory[at + 2],
+        )
     }
 }
 
-// How many words the town has.
-pub fn words(memory: &[u32]) -> usize
-    requires { Ready memory.now }
-    ensures { result ≡ words (limits_in memory.now) }
-{
-    limits(memory).words()
-}
-
-// The place of the first word that says where a corner's list stops.
-pub fn stops_from(memory: &[u32]) -> usize
-    requires { Ready memory.now }
-    ensures { result ≡ suc (starts_from (limits_in memory.now)) }
-{
-    limits(memory).starts_from() + 1
-}
-
-// How many words behind that place the lists begin.
-pub fn lists_behind(memory: &[u32]) -> usize
-    requires { Ready memory.now }
-    ensures { result ≡ corner_words * (limits_in memory.now).corners }
-{
-    CORNER_WORDS * corners(memory) as usize
-}
-
-pub fn corners(memory: &[u32]) -> u16
-    requires { Ready memory.now }
-    ensures { result ≡ (limits_in memory.now).corners }
-{
-    limits(memory).corners
-}
-
-pub fn count(memory: &[u32]) -> u16
-    requires { Ready memory.now }
-    ensures { result ≡ length (streets_in memory.now) }
-{
-    memory[COUNT] as u16
-}
-
-pub fn street(memory: &[u32], i: u16) -> Street
-    requires front { Ready memory.now }
-    requires there { i < length (streets_in memory.now) }
-    ensures { as_street result ≡ street (streets_in memory.now) i }
-{
-    let at = street_from(i);
-    Street::new(memory[at] as u16, memory[at + 1] as u16, memory[at + 2])
-}
-
-// Where the list of a corner begins, and where it stops.
-pub fn list_at(memory: &[u32], c: u16) -> (usize, usize)
-    requires town { Sound memory.now }
-    requires there { c < (limits_in memory.now).corners }
-    ensures forward { result.0 ≤ result.1 }
-    ensures within { result.1 ≤ length memory.now }
-    ensures list { take (result.1 - result.0) (drop result.0 memory.now) ≡ streets_at (streets_in memory.now) c }
-{
-    let limits = limits(memory);
-    let at = limits.starts_from() + c as usize;
-    let lists = limits.lists_from();
-    (lists + memory[at] as usize, lists + memory[at + 1] as usize)
+impl TownRef<'_> {
+    // Where the list of a corner begins, and where it stops.
+    pub(super) fn list_at(&self, c: u16) -> (usize, usize)
+        requires { c < (limits_in self.now.memory.now).corners }
+        ensures forward { result.0 ≤ result.1 }
+        ensures within { result.1 ≤ length self.now.memory.now }
+        ensures list { take (result.1 - result.0) (drop result.0 self.now.memory.now) ≡ streets_at (streets_in self.now.memory.now) c }
+    {
+        let limits = self.limits();
+        let at = limits.starts_from() + usize::from(c);
+        let lists = limits.lists_from();
+        (
+            lists + self.memory[at] as usize,
+            lists + self.memory[at + 1] as usize,
+        )
+    }
 }
 
 pub fn set_count(memory: &mut [u32], n: u16)
     requires { head_words ≤ length memory.old }
     ensures { memory.new ≡ slice_set memory.old count_at n }
 {
-    memory[COUNT] = n as u32;
+    memory[COUNT] = u32::from(n);
 }
 
 pub fn put_street(memory: &mut [u32], i: u16, s: Street)
@@ -168,8 +180,8 @@ pub fn put_street(memory: &mut [u32], i: u16, s: Street)
     ensures { memory.new ≡ slice_set (slice_set (slice_set memory.old (street_from i) s.one) (street_from i + 1) s.other) (street_from i + 2) s.long }
 {
     let at = street_from(i);
-    memory[at] = s.one as u32;
-    memory[at + 1] = s.other as u32;
+    memory[at] = u32::from(s.one);
+    memory[at + 1] = u32::from(s.other);
     memory[at + 2] = s.long;
 }
 

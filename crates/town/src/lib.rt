@@ -9,7 +9,7 @@ mod lists;
 mod reading;
 mod refusal;
 
-pub use changes::{close_street, open_street, open_town};
+pub use changes::{TownMut, open_town};
 pub use limit::Limits;
-pub use reading::{corner, count, degree, limits, street, streets_at};
+pub use reading::TownRef;
 pub use refusal::Refusal;

@@ -3,7 +3,7 @@ ghost use Rattle.std.specs.Prelude.{◌<◌, ◌≤◌};
 ghost use Rattle.streets.specs.Calls.{most_corners, most_streets};
 
 // The corners are those below `corners`; `streets` bounds the number of streets.
-#[derive(Clone, Copy)]
+#[derive(Clone, Copy, Debug, PartialEq, Eq, Hash)]
 pub struct Limits {
     pub corners: u16,
     pub streets: u16,

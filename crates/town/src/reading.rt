@@ -1,71 +1,100 @@
-// What memory says of its town.
+// A town to read.
 ghost use Rattle.std.specs.Prelude.{◌≡◌, length, if◌then◌else◌, Some, None, nat_lt};
 ghost use Rattle.streets.specs.Streets.{street, ends_at};
 ghost use Rattle.streets.specs.Meaning.{as_street};
 ghost use Rattle.town.specs.Corners.{streets_at};
-ghost use Rattle.town.specs.Layout.{limits_in, streets_in};
+ghost use Rattle.town.specs.Layout.{limits_in, streets_in, words};
 ghost use Rattle.town.specs.Town.{Sound};
 ghost use Rattle.town.specs.Meaning.{as_limits};
 
-use super::layout;
+use super::layout::Head;
 use super::limit::Limits;
 use streets::Street;
 
-// The corner with this number, if the town has it.
-pub fn corner(memory: &[u32], c: u32) -> Option<u16>
-    requires { Sound memory.now }
-    ensures { result ≡ (if nat_lt c (limits_in memory.now).corners then Some c else None) }
+// The town that lent memory holds, to read.
+#[derive(Clone, Copy, Debug)]
+pub struct TownRef<'m> {
+    pub memory: &'m [u32],
+    pub ghost sound: { Sound memory.now },
+}
+
+// The number, if it is below n.
+fn below(i: u32, n: u16) -> Option<u16>
+    ensures { result ≡ (if nat_lt i n then Some i else None) }
 {
-    if c < layout::corners(memory) as u32 {
-        Some(c as u16)
-    } else {
-        None
+    u16::try_from(i).ok().filter(|i| *i < n)
+}
+
+impl<'m> TownRef<'m> {
+    fn front(&self) -> Head<'m>
+        ensures { result.memory.now ≡ self.now.memory.now }
+    {
+        Head {
+            memory: self.memory,
+        }
     }
-}
 
-// The limits that the town was opened with.
-pub fn limits(memory: &[u32]) -> Limits
-    requires { Sound memory.now }
-    ensures { as_limits result ≡ limits_in memory.now }
-{
-    layout::limits(memory)
-}
-
-// The number of streets.
-pub fn count(memory: &[u32]) -> u16
-    requires { Sound memory.now }
-    ensures { result ≡ length (streets_in memory.now) }
-{
-    layout::count(memory)
-}
-
-// The i-th street; past the last, a loop of length 0.
-pub fn street(memory: &[u32], i: u32) -> Street
-    requires { Sound memory.now }
-    ensures { as_street result ≡ street (streets_in memory.now) i }
-{
-    if i >= count(memory) as u32 {
-        return Street::new(0, 0, 0);
+    // The limits that the town was opened with.
+    pub fn limits(&self) -> Limits
+        ensures { as_limits result ≡ limits_in self.now.memory.now }
+    {
+        self.front().limits()
     }
-    layout::street(memory, i as u16)
-}
 
-// The streets that have an end at a corner, in increasing order; a loop is there twice.
-pub fn streets_at(memory: &[u32], c: u32) -> &[u32]
-    requires { Sound memory.now }
-    ensures { result.now ≡ streets_at (streets_in memory.now) c }
-{
-    if c >= layout::corners(memory) as u32 {
-        return &memory[0..0];
+    // How many words of memory are the town's.
+    pub(super) fn words(&self) -> usize
+        ensures { result ≡ words (limits_in self.now.memory.now) }
+    {
+        self.front().words()
     }
-    let (start, stop) = layout::list_at(memory, c as u16);
-    &memory[start..stop]
-}
 
-// The number of ends of streets at a corner.
-pub fn degree(memory: &[u32], c: u32) -> u16
-    requires { Sound memory.now }
-    ensures { result ≡ ends_at (streets_in memory.now) c }
-{
-    streets_at(memory, c).len() as u16
+    // The number of streets.
+    pub fn count(&self) -> u16
+        ensures { result ≡ length (streets_in self.now.memory.now) }
+    {
+        self.front().count()
+    }
+
+    // The corner with this number, if the town has it.
+    pub fn corner(&self, c: u32) -> Option<u16>
+        ensures { result ≡ (if nat_lt c (limits_in self.now.memory.now).corners then Some c else None) }
+    {
+        below(c, self.front().corners())
+    }
+
+    // The number of the i-th street, if the town has it.
+    pub(super) fn number(&self, i: u32) -> Option<u16>
+        ensures { result ≡ (if nat_lt i (length (streets_in self.now.memory.now)) then Some i else None) }
+    {
+        below(i, self.count())
+    }
+
+    // The i-th street; past the last, a loop of length 0.
+    pub fn street(&self, i: u32) -> Street
+        ensures { as_street result ≡ street (streets_in self.now.memory.now) i }
+    {
+        let Some(i) = self.number(i) else {
+            return Street::new(0, 0, 0);
+        };
+        self.front().street(i)
+    }
+
+    // The streets that have an end at a corner, in increasing order; a loop is there twice.
+    #[tactic(auto, using(crate::proofs::Holding::none_there))]
+    pub fn streets_at(&self, c: u32) -> &'m [u32]
+        ensures { result.now ≡ streets_at (streets_in self.now.memory.now) c }
+    {
+        let Some(c) = self.corner(c) else {
+            return &self.memory[0..0];
+        };
+        let (start, stop) = self.list_at(c);
+        &self.memory[start..stop]
+    }
+
+    // The number of ends of streets at a corner.
+    pub fn degree(&self, c: u32) -> u16
+        ensures { result ≡ ends_at (streets_in self.now.memory.now) c }
+    {
+        self.streets_at(c).len() as u16
+    }
 }

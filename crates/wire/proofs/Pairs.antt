@@ -1,11 +1,13 @@
 -- Legs in bytes, two for each.
-use Rattle.std.proofs.Common.{◌≡◌, ℕ, zero, suc, ◌+◌, ◌*◌, ◌/◌, ◌%◌, ◌<◌, ◌≤◌, Bool, true, false, cond, eqb, List, [], ◌∷◌, ◌++◌, map, length, get_or, take, drop, refl, ap, ◌∙◌, arith}
+use Rattle.std.proofs.Common.{◌≡◌, ℕ, zero, suc, ◌+◌, ◌*◌, ◌<◌, ◌≤◌, List, [], ◌∷◌, ◌++◌, map, length, get_or, take, drop, refl, ap, ◌∙◌, arith}
 use Rattle.std.proofs.lemmas.List.{get_or-drop, length-drop, map_more, length-map, length-take}
-use Rattle.std.proofs.lemmas.Bool.{eq-eqb, ne_eqb}
+use Rattle.std.proofs.lemmas.Nat.{le_bytes_2, from_le_bytes-to_le_bytes_2}
+use Rattle.std.proofs.lemmas.Grind.{common_steps}
 use Rattle.std.proofs.lemmas.Bool.Decides.{nat_tests}
-use Rattle.streets.specs.Streets.{Leg}
+use Rattle.streets.specs.Streets.{Leg, leg_code}
 use Rattle.streets.specs.Meaning.{as_leg}
 use Rattle.streets.specs.declared.leg.Leg.{Leg as LegStruct}
+use Rattle.streets.proofs.Legs.{code_again, leg_again}
 use Rattle.wire.specs.Rows.{put, word}
 use Rattle.wire.specs.Format.{leg_row, leg_at, legs_row, legs_in, Short}
 use Rattle.wire.proofs.Puts.{put_then, put_same}
@@ -39,15 +41,8 @@ legs_more f xs k x part h at was puts =
     rw (m, legs_row_push) (put_then part (legs_row (map f (take k xs))) (leg_row (f x)) (2 * k) was puts n)
 
 -- two bytes as a leg are the leg's two bytes
-code_again : (c : ℕ) → 2 * (c / 2) + cond (eqb (c % 2) 1) 1 0 ≡ c
-code_again c = grind (arith, nat_tests)
-
 leg_row_again : (x y : ℕ) (bs : List ℕ) → x < 256 → y < 256 → leg_row (leg_at (x ∷ y ∷ bs) 0) ≡ x ∷ y ∷ []
-leg_row_again x y bs p q =
-    let low : (x + y * 256) % 256 ≡ x = omega arith in
-    let high : (x + y * 256) / 256 ≡ y = omega arith in
-    let all : y % 256 ≡ y = omega arith in
-    rw (code_again (x + y * 256), low, high, all)
+leg_row_again x y bs p q = rw (code_again (x + y * 256)) (le_bytes_2 (x ∷ y ∷ []) (x + y * 256) refl (λ k. grind (arith, common_steps)) refl)
 
 pub legs_row_again : (n : ℕ) (bs : List ℕ) → ((k : ℕ) → k < 2 * n → get_or bs k 0 < 256) → 2 * n ≤ length bs → legs_row (legs_in n bs) ≡ take (2 * n) bs
 unfolding legs_row legs_in
@@ -76,26 +71,14 @@ legs_stay t n base bs b h was =
     rw (length-legs_in n (drop 5 base), again) (put_then base (t ∷ word n) (take (2 * n) (drop 5 base)) 5 was same refl)
 
 -- a leg's two bytes as a leg are the leg
-half_again : (a : ℕ) (b : Bool) → (2 * a + cond b 1 0) / 2 ≡ a
-half_again a true = omega arith
-half_again a false = omega arith
-
-bit_again : (a : ℕ) (b : Bool) → eqb ((2 * a + cond b 1 0) % 2) 1 ≡ b
-bit_again a true = eq-eqb _ 1 (omega arith)
-bit_again a false = ne_eqb _ 1 (omega arith)
-
-leg_again : (a : ℕ) (b : Bool) (bs : List ℕ) → a < 32768 → leg_at (leg_row (record { along = a; back = b }) ++ bs) 0 ≡ record { along = a; back = b }
-leg_again a b bs h =
-    let c = 2 * a + cond b 1 0 in
-    let half = half_again a b in
-    let whole : c % 256 + c / 256 % 256 * 256 ≡ c = omega arith in
-    rw (whole, half, bit_again a b)
+leg_at_again : (l : Leg) (bs : List ℕ) → l.along < 32768 → leg_at (leg_row l ++ bs) 0 ≡ l
+leg_at_again l bs h = rw (from_le_bytes-to_le_bytes_2 (leg_code l) (grind (arith, nat_tests))) (leg_again l)
 
 pub legs_in_again : (ls : List Leg) (bs : List ℕ) → Short ls → legs_in (length ls) (legs_row ls ++ bs) ≡ ls
 unfolding legs_row legs_in
 legs_in_again [] bs h = refl
 legs_in_again (l ∷ ls) bs h =
-    let first = leg_again l.along l.back (legs_row ls ++ bs) h.0 in
+    let first = leg_at_again l (legs_row ls ++ bs) h.0 in
     ap (λ x. x ∷ legs_in (length ls) (legs_row ls ++ bs)) first ∙ ap (λ xs. l ∷ xs) (legs_in_again ls bs h.1)
 
 -- the code's legs are short

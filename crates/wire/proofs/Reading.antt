@@ -1,6 +1,8 @@
 -- What was written reads as what it was, and what reads as a call or an answer was written so.
-use Rattle.std.proofs.Common.{◌≡◌, ℕ, suc, ◌+◌, ◌*◌, ◌≤◌, min, Bool, true, false, cond, ◌&&◌, eqb, ltb, List, [], ◌∷◌, ◌++◌, length, drop, Ok, Err, Result, sym, refl, ap, ◌∙◌, ⊎_elim, arith}
-use Rattle.std.proofs.lemmas.Bool.{cases_Bool, eq-eqb, eqb-true, ltb-true, and_parts}
+use Rattle.std.proofs.Common.{◌≡◌, ℕ, suc, ◌+◌, ◌*◌, ◌≤◌, true, cond, ◌&&◌, eqb, ltb, List, [], ◌∷◌, ◌++◌, length, drop, Ok, Result, sym, refl, ap, ◌∙◌, arith}
+use Rattle.std.proofs.lemmas.Bool.{eq-eqb, ltb-true, and_parts}
+use Rattle.std.proofs.lemmas.Bool.Decides.{nat_tests}
+use Rattle.std.proofs.lemmas.Nat.{from_le_bytes-to_le_bytes_4}
 use Rattle.std.proofs.lemmas.List.{nil_from_length, append-nil, length-append, length-drop, get_or-drop, drop-drop, drop_all, take-append-drop}
 use Rattle.streets.specs.Streets.{Leg}
 use Rattle.streets.specs.Calls.{refused, number, shortest, some_round, never}
@@ -8,35 +10,23 @@ use Rattle.wire.specs.Rows.{Bytes, word, word_at}
 use Rattle.wire.specs.Format.{call_row, fitting, legs_row, legs_in, answer_row}
 use Rattle.wire.specs.Laws.{CallAgain, CallRowAgain, OneCallRow, FirstRow, AnswerAgain, AnswerRowAgain}
 use Rattle.wire.specs.declared.call.Call.TheVariants.{Open, Close, Odd, Round}
-use Rattle.wire.proofs.Words.{word_again, word_then, word_last, word_behind}
+use Rattle.wire.proofs.Words.{word_then, word_last, word_behind}
 use Rattle.wire.proofs.Pairs.{length-legs_row, length-legs_in, legs_row_again, legs_in_again}
 
 pub call_again : CallAgain
 call_again (Open a b n) h =
     let p = and_parts (ltb a 4294967296) (ltb b 4294967296 && ltb n 4294967296) h in
     let q = and_parts (ltb b 4294967296) (ltb n 4294967296) p.1 in
-    rw (word_again a (ltb-true _ _ p.0), word_again b (ltb-true _ _ q.0), word_again n (ltb-true _ _ q.1))
-call_again (Close i) h = rw (word_again i (ltb-true _ _ h))
+    rw (from_le_bytes-to_le_bytes_4 a (ltb-true _ _ p.0), from_le_bytes-to_le_bytes_4 b (ltb-true _ _ q.0), from_le_bytes-to_le_bytes_4 n (ltb-true _ _ q.1))
+call_again (Close i) h = rw (from_le_bytes-to_le_bytes_4 i (ltb-true _ _ h))
 call_again Odd h = refl
-call_again (Round c) h = rw (word_again c (ltb-true _ _ h))
+call_again (Round c) h = rw (from_le_bytes-to_le_bytes_4 c (ltb-true _ _ h))
 
 pub first_row_is : FirstRow
 first_row_is (Open a b n) rest = refl
 first_row_is (Close i) rest = refl
 first_row_is Odd rest = refl
 first_row_is (Round c) rest = refl
-
-refuted : {A B : Type 0} (p : ℕ) (x : A) → Err p ≡ Ok x → B
-refuted p x e = let z : ◌≡◌ {A = ℕ} 0 1 = cc in absurd (omega arith)
-
-by_test : {P : Type 0} (b : Bool) → (b ≡ true → P) → (b ≡ false → P) → P
-by_test b here there = ⊎_elim here there (cases_Bool b)
-
-fitted : {A : Type 0} (n : ℕ) (bs : List ℕ) (a x : A) → fitting n bs a ≡ Ok x → (length bs ≡ n) × (a ≡ x)
-fitted n bs a x e =
-    by_test (eqb (length bs) n)
-    (λ t. let same = rw t at e in (eqb-true (length bs) n t, cc))
-    (λ t. refuted (1 + min n (length bs)) x (rw t at e))
 
 -- a row that is tried for a first byte and a size: it is what was read, written, or the next are tried
 module _ {A : Type 0} (row : A → List ℕ) (k j n : ℕ) (bs : List ℕ) (a x : A) (next : Result A ℕ) where
@@ -45,20 +35,17 @@ module _ {A : Type 0} (row : A → List ℕ) (k j n : ℕ) (bs : List ℕ) (a x 
       (length bs ≡ n → row a ≡ j ∷ bs) →
       (next ≡ Ok x → row x ≡ k ∷ bs) →
       row x ≡ k ∷ bs
-  tried e here there =
-      by_test (eqb k j)
-      (λ t. let f = fitted n bs a x (rw t at e) in let h = here f.0 in let same = eqb-true k j t in cc)
-      (λ t. there (rw t at e))
+  tried e here there = grind (arith, nat_tests)
 
 pub call_row_again : CallRowAgain
-call_row_again [] c b e = refuted 0 c e
+call_row_again [] c b e = absurd (cc)
 call_row_again (k ∷ bs) c b e =
     let r : Bytes bs = λ i. b (suc i) in
     tried call_row k 0 12 bs _ c _ e (λ n. ap (λ row. 0 ∷ row) (word_then bs _ 0 r (omega arith) (word_then bs _ 4 r (omega arith) (word_last bs 8 r (omega arith)))))
     (λ e. tried call_row k 1 4 bs _ c _ e (λ n. ap (λ row. 1 ∷ row) (word_last bs 0 r (omega arith)))
     (λ e. tried call_row k 2 0 bs _ c _ e (λ n. ap (λ row. 2 ∷ row) (sym (nil_from_length bs n)))
     (λ e. tried call_row k 3 4 bs _ c _ e (λ n. ap (λ row. 3 ∷ row) (word_last bs 0 r (omega arith)))
-    (refuted 0 c))))
+    (λ e. absurd (cc)))))
 
 pub one_call_row : OneCallRow
 one_call_row row row' c b b' e e' = sym (call_row_again row c b e) ∙ call_row_again row' c b' e'
@@ -83,18 +70,18 @@ legs_behind bs rest b h e =
     ap (λ m. word m ++ (legs_row (legs_in n (drop 4 bs)) ++ rest)) (length-legs_in n (drop 4 bs)) ∙ word_then bs _ 0 b (omega arith) part
 
 pub answer_again : AnswerAgain
-answer_again (refused k p) h = rw (word_again k h.0, word_again p h.1)
-answer_again (number n) h = rw (word_again n h)
+answer_again (refused k p) h = rw (from_le_bytes-to_le_bytes_4 k h.0, from_le_bytes-to_le_bytes_4 p h.1)
+answer_again (number n) h = rw (from_le_bytes-to_le_bytes_4 n h)
 answer_again (shortest ls) h =
     let legs : legs_in (length ls) (legs_row ls) ≡ ls = rw append-nil at (legs_in_again ls [] h.1) in
-    rw (word_again (length ls) h.0, length_shortest ls, legs)
+    rw (from_le_bytes-to_le_bytes_4 (length ls) h.0, length_shortest ls, legs)
 answer_again (some_round ls low) h =
     let low_is = word_behind (word (length ls) ++ legs_row ls) low (4 + 2 * length ls) (omega (arith, length-legs_row ls)) h.2 in
-    rw (word_again (length ls) h.0, length_some_round ls low, legs_in_again ls (word low) h.1, low_is)
+    rw (from_le_bytes-to_le_bytes_4 (length ls) h.0, length_some_round ls low, legs_in_again ls (word low) h.1, low_is)
 answer_again never h = refl
 
 pub answer_row_again : AnswerRowAgain
-answer_row_again [] a b e = refuted 0 a e
+answer_row_again [] a b e = absurd (cc)
 answer_row_again (k ∷ bs) a b e =
     let r : Bytes bs = λ i. b (suc i) in
     tried answer_row k 0 8 bs _ a _ e (λ n. ap (λ row. 0 ∷ row) (word_then bs _ 0 r (omega arith) (word_last bs 4 r (omega arith))))
@@ -102,4 +89,4 @@ answer_row_again (k ∷ bs) a b e =
     (λ e. tried answer_row k 2 (4 + 2 * word_at bs 0) bs _ a _ e (λ n. ap (λ row. 2 ∷ row) (rw append-nil at (legs_behind bs [] r (omega arith) (sym (drop_all (4 + 2 * word_at bs 0) bs (omega arith))))))
     (λ e. tried answer_row k 3 (8 + 2 * word_at bs 0) bs _ a _ e (λ n. ap (λ row. 3 ∷ row) (legs_behind bs _ r (omega arith) (word_last bs (4 + 2 * word_at bs 0) r (omega arith))))
     (λ e. tried answer_row k 4 0 bs _ a _ e (λ n. ap (λ row. 4 ∷ row) (sym (nil_from_length bs n)))
-    (refuted 0 a)))))
+    (λ e. absurd (cc))))))

@@ -1,7 +1,7 @@
 -- Answers with legs that stand in lent bytes: how many they take, and that they are written.
 use Rattle.std.proofs.Common.{◌≡◌, ℕ, ◌+◌, ◌-◌, ◌*◌, ◌<◌, ◌≤◌, Bool, true, cond, leb, List, [], ◌∷◌, ◌++◌, map, length, get_or, take, drop, set, Some, None, Option, refl, ◌∙◌, arith}
 use borrow.Rule.Slice.PartMut.{put_mid}
-use Rattle.std.proofs.lemmas.List.{drop_at, length-append, length-drop, length-set, length-take, length-map}
+use Rattle.std.proofs.lemmas.List.{drop_at, length-append, length-drop, length-set, length-take}
 use Rattle.std.proofs.lemmas.Bool.{le-leb}
 use Rattle.streets.specs.Streets.{Leg}
 use Rattle.wire.specs.Rows.{Bytes, put, word, Written, WrittenIf}
@@ -9,15 +9,15 @@ use Rattle.wire.specs.Format.{answer_row, legs_in, legs_row, Short}
 use Rattle.wire.specs.Meaning.{as_answer, answer_size, as_round, counted}
 use Rattle.wire.specs.declared.answer.Answer.{Answer as AnswerEnum}
 use Rattle.wire.specs.declared.answer.Answer.TheVariants.{Refused, Number, Shortest, SomeRound, Never}
-use Rattle.wire.proofs.Puts.{put_part, put_all, put_first, put_then, byte_before, written_over}
+use Rattle.wire.proofs.Puts.{put_behind, put_first, put_then, byte_before, written_over}
 use Rattle.wire.proofs.Pairs.{length-legs_row, length-legs_in, legs_stay, legs_in_again}
 
-pub length-answer_row : (part : List ℕ) (a : AnswerEnum) → length (answer_row (as_answer part a)) ≡ answer_size a
-length-answer_row part (Refused k p) = refl
-length-answer_row part (Number n) = refl
-length-answer_row part (Shortest n) = omega (arith, length-legs_row (legs_in n part), length-legs_in n part)
-length-answer_row part (SomeRound n low) = simp length-append (omega (arith, length-legs_row (legs_in n part), length-legs_in n part))
-length-answer_row part Never = refl
+pub length_answer_row : (part : List ℕ) (a : AnswerEnum) → length (answer_row (as_answer part a)) ≡ answer_size a
+length_answer_row part (Refused k p) = refl
+length_answer_row part (Number n) = refl
+length_answer_row part (Shortest n) = omega (arith, length-legs_row (legs_in n part), length-legs_in n part)
+length_answer_row part (SomeRound n low) = simp length-append (omega (arith, length-legs_row (legs_in n part), length-legs_in n part))
+length_answer_row part Never = refl
 
 module _ (n : ℕ) (base bs : List ℕ) where
   head_written :
@@ -39,15 +39,14 @@ module _ (n : ℕ) (base bs : List ℕ) where
       (low : ℕ) (bs' : List ℕ) →
       9 + 2 * n ≤ length base →
       bs ≡ put (set base 0 3) 1 (word n) →
-      bs' ≡ put bs (9 + 2 * n - 4) (word low) →
+      bs' ≡ put bs (5 + 2 * n) (word low) →
       Bytes bs' →
       bs' ≡ put base 0 (answer_row (as_answer (drop 5 base) (SomeRound n low)))
   some_round_written low bs' h puts ends b =
       let ls = legs_in n (drop 5 base) in
       let long : length bs ≡ length base = rw puts (simp (length-append, length-take, length-drop, length-set) (omega arith)) in
-      let same : (k : ℕ) → k < 5 + 2 * n → get_or bs' k 0 ≡ get_or bs k 0 = λ k l. rw ends (byte_before bs (word low) (9 + 2 * n - 4) k (omega arith) (omega arith)) in
-      let before : (k : ℕ) → k < 5 + 2 * n → get_or bs k 0 < 256 = λ k l. omega (arith, b k, same k l) in
-      put_then base (3 ∷ (word (length ls) ++ legs_row ls)) (word low) (9 + 2 * n - 4) (head_written 3 (omega arith) puts before) ends (omega (arith, length-legs_row ls, length-legs_in n (drop 5 base)))
+      let before : (k : ℕ) → k < 5 + 2 * n → get_or bs k 0 < 256 = λ k l. grind (arith, b k, ends, byte_before bs (word low) (5 + 2 * n) k) in
+      put_then base (3 ∷ (word (length ls) ++ legs_row ls)) (word low) (5 + 2 * n) (head_written 3 (omega arith) puts before) ends (omega (arith, length-legs_row ls, length-legs_in n (drop 5 base)))
 
 pub length_round : (ls : List Leg) (low : Option ℕ) → 5 + 2 * length ls ≤ length (answer_row (as_round ls low))
 length_round ls None = omega (arith, length-legs_row ls)
@@ -63,25 +62,21 @@ size_counted ls None e w s = let t = rw w at s in omega (arith, length-legs_row 
 size_counted ls (Some k) e w s = let t = rw w at s in simp length-append (omega (arith, length-legs_row ls))
 
 counted_is : (part : List ℕ) (n : ℕ) (low : Option ℕ) → as_answer part (counted n low) ≡ as_round (legs_in n part) low
-counted_is part n None = refl
-counted_is part n (Some low) = refl
+counted_is part n low = grind arith
 
--- the part of bytes that so many legs fill
-abbrev pub legs_part : ℕ → List ℕ → List ℕ
-legs_part n base = take (5 + 2 * n - 5) (drop 5 base)
+-- what an answer has behind its count
+abbrev pub behind : List ℕ → List ℕ
+behind base = take (length base - 5) (drop 5 base)
 
--- legs that were written into their part
+-- legs that were written there
 pub legs_handed_on :
-    {X : Type 0} (f : X → Leg) (xs : List X) (base ys : List ℕ) (fit : Bool) →
+    {X : Type 0} (f : X → Leg) (xs : List X) (base ys : List ℕ) →
     5 + 2 * length xs ≤ length base →
-    fit ≡ leb (2 * length xs) (length (legs_part (length xs) base)) →
-    ys ≡ cond fit (put (legs_part (length xs) base) 0 (legs_row (map f xs))) (legs_part (length xs) base) →
-    put_mid 5 (5 + 2 * length xs - 5) base ys ≡ put base 5 (legs_row (map f xs))
-legs_handed_on f xs base ys fit h t was =
-    let row : length (legs_row (map f xs)) ≡ 2 * length xs = simp (length-legs_row, length-map) in
-    let part : length (legs_part (length xs) base) ≡ 2 * length xs = simp (length-take, length-drop) (omega arith) in
-    let fits = t ∙ le-leb (2 * length xs) (length (legs_part (length xs) base)) (omega arith) in
-    put_part 5 (5 + 2 * length xs - 5) base ys (legs_row (map f xs)) ((rw fits at was) ∙ put_all (legs_part (length xs) base) (legs_row (map f xs)) (omega arith)) (omega arith)
+    ys ≡ cond (leb (2 * length xs) (length (behind base))) (put (behind base) 0 (legs_row (map f xs))) (behind base) →
+    put_mid 5 (length base - 5) base ys ≡ put base 5 (legs_row (map f xs))
+legs_handed_on f xs base ys h was =
+    let fit = le-leb (2 * length xs) (length (behind base)) (simp (length-take, length-drop) (omega arith)) in
+    put_behind 5 base ys (legs_row (map f xs)) (omega arith) (rw fit at was)
 
 -- and the answer that was written around them
 pub round_written :

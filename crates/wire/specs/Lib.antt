@@ -1,4 +1,5 @@
 pub mod Rows
 pub mod Format
 pub mod Meaning
+pub mod Kinds
 pub mod Laws

@@ -7,6 +7,7 @@ use Rattle.wire.specs.Rows.{room, WrittenIf}
 use Rattle.wire.specs.Format.{legs_in, answer_row}
 use Rattle.wire.specs.declared.answer.Answer.{Answer as AnswerEnum}
 use Rattle.wire.specs.declared.answer.Answer.TheVariants.{Refused, Number, Shortest, SomeRound, Never}
+use Rattle.wire.specs.declared.unreadable.Unreadable.{Unreadable}
 use Rattle.wire.specs.declared.call.Call.{Call as CallEnum}
 use Rattle.wire.specs.declared.call.Call.TheVariants.{Open, Close, Odd, Round}
 
@@ -48,6 +49,6 @@ counted n None = Shortest n
 counted n (Some low) = SomeRound n low
 
 -- the meaning of what was read, or the place at which reading failed
-abbrev pub read_as : {A B : Type 0} → (A → B) → Result A ℕ → Result B ℕ
+abbrev pub read_as : {A B : Type 0} → (A → B) → Result A Unreadable → Result B ℕ
 read_as f (Ok a) = Ok (f a)
-read_as f (Err p) = Err p
+read_as f (Err e) = Err e.place

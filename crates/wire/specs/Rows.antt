@@ -1,5 +1,5 @@
 -- Rows of bytes, numbers of four bytes in them, and rows written over lent bytes.
-use Rattle.std.specs.Prelude.{◌≡◌, ℕ, ◌+◌, ◌*◌, ◌/◌, ◌%◌, ◌<◌, Bool, cond, List, [], ◌∷◌, ◌++◌, length, take, drop, Some, None, Option, nat_le, slice_index}
+use Rattle.std.specs.Prelude.{◌≡◌, ℕ, ◌+◌, ◌*◌, ◌/◌, ◌%◌, ◌<◌, Bool, if◌then◌else◌, List, [], ◌∷◌, ◌++◌, length, take, drop, Some, None, Option, nat_le, slice_index}
 
 abbrev pub Bytes : List ℕ → Type 0
 Bytes bs = (k : ℕ) → slice_index bs k < 256
@@ -24,8 +24,8 @@ put bs i row = take i bs ++ (row ++ drop (i + length row) bs)
 
 -- if it fits, the row is written to the front of the lent bytes and its length returned; else nothing is written
 pub record WrittenIf (fits : Bool) (row before : List ℕ) (r : Option ℕ) (after : List ℕ) : Type 0 where
-  pub count : r ≡ cond fits (Some (length row)) None
-  pub bytes : after ≡ cond fits (put before 0 row) before
+  pub count : r ≡ if fits then Some (length row) else None
+  pub bytes : after ≡ if fits then put before 0 row else before
 
 abbrev pub room : List ℕ → List ℕ → Bool
 room row lent = nat_le (length row) (length lent)

@@ -1,13 +1,15 @@
 // Calls as rows of bytes.
 ghost use Rattle.std.specs.Prelude.{◌≡◌, length};
-ghost use Rattle.wire.specs.Rows.{Written};
 ghost use Rattle.wire.specs.Format.{call_row, call_in, first_row};
 ghost use Rattle.wire.specs.Meaning.{as_call, read_as};
 
+use super::kind::CallKind;
+use super::row::Row;
 use super::rows::{exactly, put_word, read_word};
+use super::unreadable::Unreadable;
 
 // A field holds any number of four bytes, whatever the town's limits.
-#[derive(Clone, Copy, PartialEq, Eq, Debug)]
+#[derive(Clone, Copy, Debug, PartialEq, Eq, Hash)]
 pub enum Call {
     Open { one: u32, other: u32, long: u32 },
     Close { street: u32 },
@@ -15,39 +17,32 @@ pub enum Call {
     Round { from: u32 },
 }
 
-// The call that a row is, or the index of the byte at which reading fails.
-pub fn read_call(row: &[u8]) -> Result<Call, usize>
-    ensures { read_as as_call result ≡ call_in row.now }
-{
-    let Some((kind, fields)) = row.split_first() else {
-        return Err(0);
-    };
-    match *kind {
-        0 => {
-            exactly(12, fields)?;
-            Ok(Call::Open {
+impl TryFrom<&[u8]> for Call {
+    type Error = Unreadable;
+
+    ghost try_from_gives = { λ row r. read_as as_call r ≡ call_in row.now };
+
+    // The call that a row is.
+    fn try_from(row: &[u8]) -> Result<Call, Unreadable> {
+        let Some((&first, fields)) = row.split_first() else {
+            return Err(Unreadable { place: 0 });
+        };
+        let kind = CallKind::try_from(first)?;
+        exactly(kind.fields(), fields)?;
+        Ok(match kind {
+            CallKind::Open => Call::Open {
                 one: read_word(fields, 0),
                 other: read_word(fields, 4),
                 long: read_word(fields, 8),
-            })
-        }
-        1 => {
-            exactly(4, fields)?;
-            Ok(Call::Close {
+            },
+            CallKind::Close => Call::Close {
                 street: read_word(fields, 0),
-            })
-        }
-        2 => {
-            exactly(0, fields)?;
-            Ok(Call::Odd)
-        }
-        3 => {
-            exactly(4, fields)?;
-            Ok(Call::Round {
+            },
+            CallKind::Odd => Call::Odd,
+            CallKind::Round => Call::Round {
                 from: read_word(fields, 0),
-            })
-        }
-        _ => Err(0),
+            },
+        })
     }
 }
 
@@ -55,54 +50,49 @@ pub fn read_call(row: &[u8]) -> Result<Call, usize>
 pub fn first_row(calls: &[u8]) -> &[u8]
     ensures { result.now ≡ first_row calls.now }
 {
-    let Some(kind) = calls.first() else {
+    let Some(&first) = calls.first() else {
         return calls;
     };
-    let size = match *kind {
-        0 => 13,
-        1 | 3 => 5,
-        _ => 1,
+    let fields = match CallKind::try_from(first) {
+        Ok(kind) => kind.fields(),
+        Err(_) => 0,
     };
-    &calls[0..calls.len().min(size)]
+    &calls[..calls.len().min(1 + fields)]
 }
 
 impl Call {
-    fn size(self) -> usize
-        ensures { result ≡ length (call_row (as_call self)) }
+    ghost use Rattle.wire.specs.Kinds.{call_kind};
+
+    fn kind(self) -> CallKind
+        ensures { result ≡ call_kind self }
     {
         match self {
-            Call::Open { .. } => 13,
-            Call::Close { .. } => 5,
-            Call::Odd => 1,
-            Call::Round { .. } => 5,
+            Call::Open { .. } => CallKind::Open,
+            Call::Close { .. } => CallKind::Close,
+            Call::Odd => CallKind::Odd,
+            Call::Round { .. } => CallKind::Round,
         }
     }
 }
 
-// Writes a call's row to the front of the bytes; its length, or None if they are too few.
-pub fn write_call(call: Call, bytes: &mut [u8]) -> Option<usize>
-    ensures { Written (call_row (as_call call)) bytes.old result bytes.new }
-{
-    let size = call.size();
-    if bytes.len() < size {
-        return None;
+impl Row for Call {
+    ghost row_over = { λ _ call. call_row (as_call call) };
+
+    fn size(&self) -> usize {
+        1 + self.kind().fields()
     }
-    match call {
-        Call::Open { one, other, long } => {
-            bytes[0] = 0;
-            put_word(bytes, 1, one);
-            put_word(bytes, 5, other);
-            put_word(bytes, 9, long);
-        }
-        Call::Close { street } => {
-            bytes[0] = 1;
-            put_word(bytes, 1, street);
-        }
-        Call::Odd => bytes[0] = 2,
-        Call::Round { from } => {
-            bytes[0] = 3;
-            put_word(bytes, 1, from);
+
+    fn put(&self, bytes: &mut [u8]) {
+        bytes[0] = self.kind() as u8;
+        match *self {
+            Call::Open { one, other, long } => {
+                put_word(bytes, 1, one);
+                put_word(bytes, 5, other);
+                put_word(bytes, 9, long);
+            }
+            Call::Close { street } => put_word(bytes, 1, street),
+            Call::Odd => {}
+            Call::Round { from } => put_word(bytes, 1, from),
         }
     }
-    Some(size)
 }

@@ -3,10 +3,17 @@
 
 mod answer;
 mod call;
+mod kind;
 pub mod laws;
 mod legs;
+mod row;
 mod rows;
+mod sequence;
+mod unreadable;
 
-pub use answer::{Answer, LEGS_AT, read_answer, write_answer, write_round};
-pub use call::{Call, first_row, read_call, write_call};
+pub use answer::{Answer, LEGS_AT, write_round};
+pub use call::{Call, first_row};
 pub use legs::{read_leg, write_leg, write_legs};
+pub use row::{Row, write};
+pub use sequence::Rows;
+pub use unreadable::Unreadable;

@@ -2,12 +2,15 @@
 ghost use Rattle.std.specs.Prelude.{◌≡◌, ◌+◌, ◌≤◌, length};
 ghost use Rattle.wire.specs.Rows.{word, word_at, put};
 ghost use Rattle.wire.specs.Format.{fitting};
+ghost use Rattle.wire.specs.Meaning.{read_as};
+
+use super::unreadable::Unreadable;
 
 pub fn read_word(bytes: &[u8], at: usize) -> u32
     requires { at + 4 ≤ length bytes.now }
     ensures { result ≡ word_at bytes.now at }
 {
-    u32::from_le_bytes([bytes[at], bytes[at + 1], bytes[at + 2], bytes[at + 3]])
+    u32::from_le_bytes(*bytes[at..].first_chunk().unwrap())
 }
 
 pub fn put_row(bytes: &mut [u8], at: usize, row: &[u8])
@@ -24,13 +27,14 @@ pub fn put_word(bytes: &mut [u8], at: usize, n: u32)
     put_row(bytes, at, &n.to_le_bytes());
 }
 
-// Refuses a row of any other size than its first byte asks for, by the index of the byte at fault.
-pub fn exactly(size: usize, rest: &[u8]) -> Result<(), usize>
-    ensures { result ≡ fitting size rest.now tt }
+// Refuses a row of any other size than its first byte asks for.
+pub fn exactly(size: usize, rest: &[u8]) -> Result<(), Unreadable>
+    ensures { read_as (λ u. u) result ≡ fitting size rest.now tt }
 {
     if rest.len() == size {
         Ok(())
     } else {
-        Err(1 + size.min(rest.len()))
+        let place = 1 + size.min(rest.len());
+        Err(Unreadable { place })
     }
 }

@@ -1,0 +1,65 @@
+// Why a call was refused, and how that is printed.
+ghost use Rattle.std.specs.Prelude.{◌≡◌};
+ghost use Rattle.desk.specs.declared.refused.Refused.TheVariants.{Turned, Unread};
+
+use std::error::Error;
+use std::fmt;
+use town::Refusal;
+use wire::Unreadable;
+
+#[derive(Clone, Copy, Debug, PartialEq, Eq, Hash)]
+pub enum Refused {
+    Unread(Unreadable),
+    Turned(Refusal),
+}
+
+impl From<Unreadable> for Refused {
+    ghost from_gives = { λ e r. r ≡ Unread e };
+
+    fn from(unreadable: Unreadable) -> Refused {
+        Refused::Unread(unreadable)
+    }
+}
+
+impl From<Refusal> for Refused {
+    ghost from_gives = { λ e r. r ≡ Turned e };
+
+    fn from(refusal: Refusal) -> Refused {
+        Refused::Turned(refusal)
+    }
+}
+
+impl Refused {
+    ghost use Rattle.desk.specs.Lines.{number_of, place_of};
+
+    fn number(self) -> u32
+        ensures { result ≡ number_of self }
+    {
+        match self {
+            Refused::Unread(_) => 1,
+            Refused::Turned(refusal) => refusal.number(),
+        }
+    }
+
+    fn place(self) -> usize
+        ensures { result ≡ place_of self }
+    {
+        match self {
+            Refused::Unread(unreadable) => unreadable.place,
+            Refused::Turned(refusal) => refusal.place() as usize,
+        }
+    }
+}
+
+impl fmt::Display for Refused {
+    ghost use Rattle.std.specs.Prelude.{Some};
+    ghost use Rattle.desk.specs.Lines.{refused_text, number_of, place_of};
+
+    ghost output = { λ r. Some (refused_text (number_of r) (place_of r)) };
+
+    fn fmt<W: fmt::Write>(&self, f: &mut fmt::Formatter<W>) -> fmt::Result {
+        write!(f, "refused {} at {}", self.number(), self.place())
+    }
+}
+
+impl Error for Refused {}
