@@ -77,18 +77,18 @@ fn leg(along: u16, back: bool) -> Leg
 // A shortest round over seven bridges: 0 0' 1 5 4' 2 6 6' 3'.
 #[test]
 fn legs_both_ways(rt: HostRuntime) -> Result<(), Fail> {
-    let round = [
-        leg(0, false),
-        leg(0, true),
-        leg(1, false),
-        leg(5, false),
-        leg(4, true),
-        leg(2, false),
-        leg(6, false),
-        leg(6, true),
-        leg(3, true),
+    let coded = [
+        (leg(0, false), 0u8),
+        (leg(0, true), 1),
+        (leg(1, false), 2),
+        (leg(5, false), 10),
+        (leg(4, true), 9),
+        (leg(2, false), 4),
+        (leg(6, false), 12),
+        (leg(6, true), 13),
+        (leg(3, true), 7),
     ];
-    let codes = [0u8, 1, 2, 10, 9, 4, 12, 13, 7];
+    let round = coded.map(|(leg, _)| leg);
     let mut bytes = [0u8; 44];
     assert_eq!(rt; write_round(&round, None, &mut bytes[0..22]), None);
     assert_eq!(rt; write_round(&round, None, &mut bytes), Some(23));
@@ -97,7 +97,7 @@ fn legs_both_ways(rt: HostRuntime) -> Result<(), Fail> {
         Ok(Answer::Shortest { legs: 9 })
     );
     let part = &bytes[LEGS_AT..23];
-    for (k, (leg, code)) in round.into_iter().zip(codes).enumerate() {
+    for (k, (leg, code)) in coded.into_iter().enumerate() {
         assert_eq!(rt; &part[2 * k..2 * k + 2], [code, 0].as_slice());
         assert_eq!(rt; read_leg(part, k), Some(leg));
     }

@@ -1,4 +1,5 @@
 // What a helper of a test says where values are not as they should be. It has no handle, so that its own contract binds it.
+// The library's `assert_eq!` takes a handle, and a function with a handle may end the program in place of its promise.
 ghost use Rattle.std.specs.Prelude.{IsTrue, OnOk};
 
 use std::fmt::Debug;

@@ -5,17 +5,15 @@ use streets::Street;
 use town::{Limits, Refusal, TownMut, TownRef, open_town};
 
 // Opening is refused, and memory is as it was.
-fn not_opened(
-    memory: &mut [u32; 20],
-    size: usize,
+fn not_opened<const N: usize>(
+    before: [u32; N],
     corners: u32,
     streets: u32,
     why: Refusal,
 ) -> Result<(), Fail> {
-    let before = *memory;
-    check(size <= 20)?;
-    check_eq(open_town(&mut memory[0..size], corners, streets), Err(why))?;
-    check_eq(*memory, before)
+    let mut memory = before;
+    check_eq(open_town(&mut memory, corners, streets), Err(why))?;
+    check_eq(memory, before)
 }
 
 #[test]
@@ -30,7 +28,7 @@ fn limits_out_of_range() -> Result<(), Fail> {
         (1, 4_294_967_295),
     ];
     for (corners, streets) in cases {
-        not_opened(&mut [9; 20], 20, corners, streets, Refusal::OutOfRange)?;
+        not_opened([9; 20], corners, streets, Refusal::OutOfRange)?;
     }
     Ok(())
 }
@@ -38,9 +36,9 @@ fn limits_out_of_range() -> Result<(), Fail> {
 #[test]
 fn memory_too_small() -> Result<(), Fail> {
     let mut memory = [9u32; 20];
-    not_opened(&mut memory, 16, 3, 2, Refusal::TooLittle)?;
-    not_opened(&mut memory, 0, 1, 0, Refusal::TooLittle)?;
-    not_opened(&mut memory, 20, 256, 1_024, Refusal::TooLittle)?;
+    not_opened([9; 16], 3, 2, Refusal::TooLittle)?;
+    not_opened([9; 0], 1, 0, Refusal::TooLittle)?;
+    not_opened([9; 20], 256, 1_024, Refusal::TooLittle)?;
     open_town(&mut memory[0..17], 3, 2)?;
     let mut least = [9u32; 5];
     open_town(&mut least, 1, 0)?;
@@ -146,8 +144,22 @@ fn streets_of_corners(rt: HostRuntime) -> Result<(), Fail> {
     closes(&mut town, 0, Ok(0))?;
     lists(&town, [&[], &[0, 0, 1], &[], &[1]])?;
     assert_eq!(rt; town.read().count(), 2);
-    assert_eq!(rt; town.read().street(1), Street::new(1, 3, 7));
-    assert_eq!(rt; town.read().street(2), Street::new(0, 0, 0));
+    assert_eq!(rt;
+        town.read().street(1),
+        Street {
+            one: 1,
+            other: 3,
+            long: 7
+        }
+    );
+    assert_eq!(rt;
+        town.read().street(2),
+        Street {
+            one: 0,
+            other: 0,
+            long: 0
+        }
+    );
     closes(&mut town, 1, Ok(1))?;
     closes(&mut town, 0, Ok(0))?;
     closes(&mut town, 0, Err(Refusal::NotThere))?;
@@ -200,7 +212,14 @@ fn lent_again() -> Result<(), Fail> {
         .open_street(2, 1, 5),
         Ok(0),
     )?;
-    check_eq(TownRef { memory: &memory }.street(0), Street::new(2, 1, 5))?;
+    check_eq(
+        TownRef { memory: &memory }.street(0),
+        Street {
+            one: 2,
+            other: 1,
+            long: 5,
+        },
+    )?;
     check_eq(
         TownMut {
             memory: &mut memory,

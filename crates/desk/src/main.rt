@@ -11,7 +11,7 @@ use std::io::Read;
 use std::rt::{Env, Files};
 use std::{env, fs, io};
 use town::{Limits, TownMut, open_town};
-use wire::Rows;
+use wire::CallRows;
 
 // The limits of the town.
 const CORNERS: u32 = 32;
@@ -34,7 +34,7 @@ fn input(rt: &(impl AllocGlobal + Env + Files + Input)) -> anyhow::Result<Vec<u8
 
 // Stops at the first unreadable row: nothing says where the next one begins.
 fn print_lines(rt: &impl Print, town: &mut TownMut<'_>, calls: &[u8]) -> io::Result<()> {
-    for row in (Rows { rest: calls }) {
+    for row in (CallRows { rest: calls }) {
         match answer_row(town, row) {
             Ok(reply) => println!(rt; "{reply}")?,
             Err(refused) => {

@@ -29,28 +29,6 @@ impl From<Refusal> for Refused {
     }
 }
 
-impl Refused {
-    ghost use Rattle.desk.specs.Lines.{number_of, place_of};
-
-    fn number(self) -> u32
-        ensures { result ≡ number_of self }
-    {
-        match self {
-            Refused::Unread(_) => 1,
-            Refused::Turned(refusal) => refusal.number(),
-        }
-    }
-
-    fn place(self) -> usize
-        ensures { result ≡ place_of self }
-    {
-        match self {
-            Refused::Unread(unreadable) => unreadable.place,
-            Refused::Turned(refusal) => refusal.place() as usize,
-        }
-    }
-}
-
 impl fmt::Display for Refused {
     ghost use Rattle.std.specs.Prelude.{Some};
     ghost use Rattle.desk.specs.Lines.{refused_text, number_of, place_of};
@@ -58,7 +36,12 @@ impl fmt::Display for Refused {
     ghost output = { λ r. Some (refused_text (number_of r) (place_of r)) };
 
     fn fmt<W: fmt::Write>(&self, f: &mut fmt::Formatter<W>) -> fmt::Result {
-        write!(f, "refused {} at {}", self.number(), self.place())
+        let (number, place) = match self {
+            Refused::Unread(unreadable) => (1, unreadable.place),
+            // A u32 is cast to a usize, for which std has no `From`.
+            Refused::Turned(refusal) => (refusal.number(), refusal.place() as usize),
+        };
+        write!(f, "refused {number} at {place}")
     }
 }
 

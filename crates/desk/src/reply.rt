@@ -1,4 +1,5 @@
 // What the desk replies to a call.
+ghost use Rattle.std.specs.Prelude.{◌≡◌};
 ghost use Rattle.wire.specs.Format.{call_in, called};
 ghost use Rattle.wire.specs.Meaning.{as_call};
 ghost use Rattle.desk.specs.Lines.{Replied};
@@ -32,7 +33,8 @@ impl fmt::Display for Reply {
 }
 
 fn answer(town: &mut TownMut<'_>, call: Call) -> Result<Reply, Refused>
-    ensures { Replied town.old.memory.now (as_call call) result town.new.memory.now }
+    ensures same_memory { town.new.memory.ghost_name ≡ town.old.memory.ghost_name }
+    ensures right { Replied town.old.memory.now (as_call call) result town.new.memory.now }
 {
     Ok(match call {
         Call::Open { one, other, long } => Reply::Number(town.open_street(one, other, long)?),
@@ -43,7 +45,8 @@ fn answer(town: &mut TownMut<'_>, call: Call) -> Result<Reply, Refused>
 }
 
 pub fn answer_row(town: &mut TownMut<'_>, row: &[u8]) -> Result<Reply, Refused>
-    ensures { Replied town.old.memory.now (called (call_in row.now)) result town.new.memory.now }
+    ensures same_memory { town.new.memory.ghost_name ≡ town.old.memory.ghost_name }
+    ensures right { Replied town.old.memory.now (called (call_in row.now)) result town.new.memory.now }
 {
     answer(town, Call::try_from(row)?)
 }

@@ -1,5 +1,6 @@
 -- A search that is over: its levels are those of the walks there are.
-use Rattle.std.proofs.Common.{◌≡◌, ℕ, zero, suc, ◌+◌, ◌-◌, ◌<◌, ◌≤◌, Bool, true, false, cond, ◌↔◌, List, [], ◌∷◌, ◌++◌, length, refl, ap, subst, arith}
+use Rattle.std.proofs.Common.{◌≡◌, ℕ, zero, suc, ◌+◌, ◌-◌, ◌<◌, ◌≤◌, Bool, true, ◌↔◌, List, [], ◌∷◌, ◌++◌, length, refl, ap, subst, arith}
+use Rattle.std.proofs.lemmas.Bool.{cond_both}
 use Rattle.std.proofs.lemmas.List.{length-append}
 use Rattle.streets.specs.Streets.{Street, street, Leg, starts, stops, may_go, goes}
 use Rattle.streets.specs.Theorems.{Joined}
@@ -15,18 +16,14 @@ use Rattle.reach.specs.Searching.{Closed, Search}
 abbrev pub Inside : ℕ → List Street → Type 0
 Inside n ss = (i : ℕ) → i < length ss → ((street ss i).one < n) × ((street ss i).other < n)
 
-pub inside_town : (l : Limits) (m : List ℕ) (ss : List Street) → Front l m ss → Inside l.corners ss
-inside_town l m ss f i h = let p = f.proper i h in (p.one_there, p.other_there)
+pub inside_town : {l : Limits} {m : List ℕ} {ss : List Street} {n : ℕ} → n ≡ l.corners → Front l m ss → Inside n ss
+inside_town e f i h = let p = f.proper i h in rw e (p.one_there, p.other_there)
 
 module _ (ss : List Street) (n : ℕ) (inside : Inside n ss) where
-  either : (b : Bool) (x y : ℕ) → x < n → y < n → cond b x y < n
-  either true x y h k = h
-  either false x y h k = k
-
   pub leg_inside : (l : Leg) → may_go ss l ≡ true → (starts ss l < n) × (stops ss l < n)
   leg_inside l may =
       let p = inside l.along (leg_there ss l may) in
-      (either l.back _ _ p.1 p.0, either l.back _ _ p.0 p.1)
+      (cond_both l.back _ _ (λ v. v < n) (λ _. p.1) (λ _. p.0), cond_both l.back _ _ (λ v. v < n) (λ _. p.0) (λ _. p.1))
 
   -- from a corner that is not there nothing is reached
   pub none_from : (c k : ℕ) → n ≤ c → k < n → Level ss c k 0

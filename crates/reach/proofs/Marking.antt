@@ -1,6 +1,7 @@
 -- A search goes on: a corner is found, and the legs of a corner have been followed.
-use Rattle.std.proofs.Common.{◌≡◌, ℕ, suc, ◌+◌, ◌-◌, ◌<◌, ◌≤◌, min, true, List, sym, ap, ◌∙◌, subst, inl, inr, arith}
-use Rattle.std.proofs.lemmas.Bool.{cases_eq, cases_lt}
+use Rattle.std.proofs.Common.{◌≡◌, ℕ, suc, ◌+◌, ◌-◌, ◌<◌, ◌≤◌, min, true, List, sym, ap, ◌∙◌, inl, inr, arith}
+use borrow.Author.Count.{below_more}
+use Rattle.std.proofs.lemmas.Bool.{cases_eq}
 use Rattle.streets.specs.Streets.{Street, Leg, starts, stops, may_go, mark}
 use Rattle.streets.specs.Counts.{sum_below}
 use Rattle.streets.proofs.Sums.{sum_split, sum_ones, part_le, one_more}
@@ -18,7 +19,7 @@ pub record Found (level level' : ℕ → ℕ) (first first' : ℕ → Leg) (queu
   pub queue_here : queue' found ≡ x
   pub queue_else : (i : ℕ) → (found ≡ i → ⊥) → queue' i ≡ queue i
 
-module _ (ss : List Street) (n : ℕ) (level level' : ℕ → ℕ) (first first' : ℕ → Leg) (queue queue' : ℕ → ℕ) (done found x : ℕ) (l : Leg)
+module _ {ss : List Street} {n : ℕ} {level level' : ℕ → ℕ} {first first' : ℕ → Leg} {queue queue' : ℕ → ℕ} {done found x : ℕ} {l : Leg}
     (s : Search ss n level first queue done found) (open_yet : done < found) (there : x < n)
     (f : Found level level' first first' queue queue' found x (suc (level (queue done))) l) where
   -- what was found before is as it was
@@ -52,48 +53,26 @@ module _ (ss : List Street) (n : ℕ) (level level' : ℕ → ℕ) (first first'
     first_now : (k : ℕ) → k < n → 1 < level' k → First ss level' k (first' k)
     first_now k h some =
         elim (cases_eq x k) [
-          | inl e ↦
-              let lower = ap suc (ap level' from ∙ still (queue done) (s.queued done open_yet).1) ∙ sym f.level_here in
-              let here : First ss level' x l = record { may = may; here = to; lower = lower } in
-              subst (λ (j : ℕ). First ss level' j (first' j)) e (subst (First ss level' x) (sym f.first_here) here)
+          | inl e ↦ rw (← e, f.first_here) (record { may = may; here = to; lower = ap suc (ap level' from ∙ still (queue done) (s.queued done open_yet).1) ∙ sym f.level_here })
           | inr e ↦
-              let same = f.level_else k e in
-              let p = s.firsts k h (omega arith) in
-              let lower = ap suc (still (starts ss (first k)) (omega (arith, p.lower))) ∙ p.lower ∙ sym same in
-              subst (First ss level' k) (sym (f.first_else k e)) (record { may = p.may; here = p.here; lower = lower })
+              let p = s.firsts k h (omega (arith, f.level_else k e)) in
+              rw (f.first_else k e) (record { may = p.may; here = p.here; lower = omega (arith, f.level_else k e, still (starts ss (first k)) (omega (arith, p.lower)), p.lower) })
         ]
 
     rising_now : (i j : ℕ) → i ≤ j → j < found + 1 → level' (queue' i) ≤ level' (queue' j)
-    rising_now i j le h =
-        elim (cases_lt j found) [
-          | inl b ↦ omega (arith, (still_queued i (omega arith)).1, (still_queued j b).1, s.rising i j le b)
-          | inr b ↦
-              let there = at_last j h b in
-              elim (cases_lt i found) [
-                | inl a ↦ omega (arith, (still_queued i a).1, there.1, s.near i a open_yet)
-                | inr a ↦ omega (arith, (at_last i (omega arith) a).1, there.1)
-              ]
-        ]
+    rising_now i j le h = grind (arith, still_queued i, still_queued j, s.rising i j, s.near i, at_last i, at_last j)
 
     pub marked : Search ss n level' first' queue' done (found + 1)
     marked = record {
       asked = (omega arith, (still_queued 0 s.asked.0).1 ∙ s.asked.1);
-      counted = omega (arith, room_sum, s.counted);
-      queued = λ i h.
-          elim (cases_lt i found) [
-            | inl a ↦ let q = still_queued i a in omega (arith, q.0, q.1, (s.queued i a).0, (s.queued i a).1)
-            | inr a ↦ let q = at_last i h a in omega (arith, q.0, q.1)
-          ];
+      counted = omega (arith, room_sum);
+      queued = λ i h. grind (arith, still_queued i, s.queued i, at_last i);
       placed = λ k h some.
           elim (cases_eq x k) [
             | inl e ↦ (found, omega arith, f.queue_here ∙ e)
             | inr e ↦ let p = s.placed k h (omega (arith, f.level_else k e)) in (p.0, omega (arith, p.1), (still_queued p.0 p.1).0 ∙ p.2)
           ];
-      low = λ k h.
-          elim (cases_eq x k) [
-            | inl e ↦ omega (arith, ap level' e, f.level_here, s.low (queue done) (s.queued done open_yet).0)
-            | inr e ↦ omega (arith, f.level_else k e, s.low k h)
-          ];
+      low = λ k h. grind (arith, f.level_else k, f.level_here, s.low k, s.low (queue done), s.queued done);
       lowest = λ k h one.
           elim (cases_eq x k) [
             | inl e ↦ absurd (omega (arith, ap level' e, f.level_here, (s.queued done open_yet).1))
@@ -101,23 +80,13 @@ module _ (ss : List Street) (n : ℕ) (level level' : ℕ → ℕ) (first first'
           ];
       firsts = first_now;
       rising = rising_now;
-      near = λ j h _.
-          elim (cases_lt j found) [
-            | inl a ↦ omega (arith, (still_queued j a).1, (still_queued done open_yet).1, s.near j a open_yet)
-            | inr a ↦ omega (arith, (at_last j h a).1, (still_queued done open_yet).1)
-          ];
-      closed = λ i h.
-          let a : i < found = omega arith in
-          subst (Closed ss level') (sym (still_queued i a).0) (still_closed (queue i) (s.queued i a).1 (s.closed i h));
+      near = λ j h _. grind (arith, still_queued j, still_queued done, s.near j, at_last j);
+      closed = λ i h. let a : i < found = omega arith in rw (still_queued i a).0 (still_closed (queue i) (s.queued i a).1 (s.closed i h));
     }
 
 -- the legs of the next corner in the queue have been followed
-pub followed : (ss : List Street) (n : ℕ) (level : ℕ → ℕ) (first : ℕ → Leg) (queue : ℕ → ℕ) (done found : ℕ) →
-    Search ss n level first queue done found →
-    done < found →
-    Closed ss level (queue done) →
-    Search ss n level first queue (done + 1) found
-followed ss n level first queue done found s h now = record {
+pub followed : {ss : List Street} {n : ℕ} {level : ℕ → ℕ} {first : ℕ → Leg} {queue : ℕ → ℕ} {done found : ℕ} → Search ss n level first queue done found → done < found → Closed ss level (queue done) → Search ss n level first queue (done + 1) found
+followed {ss} {level = level} {queue = queue} {done = done} s h now = record {
   asked = s.asked;
   counted = s.counted;
   queued = s.queued;
@@ -127,14 +96,10 @@ followed ss n level first queue done found s h now = record {
   firsts = s.firsts;
   rising = s.rising;
   near = λ j a b. omega (arith, s.near j a h, s.rising done (done + 1) (omega arith) b);
-  closed = λ i a.
-      elim (cases_lt i done) [
-        | inl b ↦ s.closed i b
-        | inr b ↦ let e : done ≡ i = omega arith in subst (λ (j : ℕ). Closed ss level (queue j)) e now
-      ];
+  closed = below_more (λ i. Closed ss level (queue i)) done s.closed now;
 }
 
-module _ (ss : List Street) (n : ℕ) (level : ℕ → ℕ) (first : ℕ → Leg) (queue : ℕ → ℕ) (done found : ℕ) (s : Search ss n level first queue done found) where
+module _ {ss : List Street} {n : ℕ} {level : ℕ → ℕ} {first : ℕ → Leg} {queue : ℕ → ℕ} {done found : ℕ} (s : Search ss n level first queue done found) where
   rest : ℕ → ℕ
   rest k = 1 - min 1 (level k)
 

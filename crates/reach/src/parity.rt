@@ -15,6 +15,9 @@ fn is_odd(town: &TownRef<'_>, c: u16) -> bool
 }
 
 // Writes c to a place of the list, if there is such a place.
+// By hand: tried with `get_mut`, with `iter_mut` and `next`, and with `zip`; what the list is in the end was not proved.
+// The place counts what was found, which is also the answer, since the lent list may be too short.
+#[tactic(auto, using(std::proofs::lemmas::List::set_past))]
 fn put(list: &mut [u32], place: usize, c: u32)
     ensures { list.new ≡ slice_set list.old place c }
 {

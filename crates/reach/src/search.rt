@@ -1,6 +1,6 @@
 // Breadth-first search from a corner.
-ghost use Rattle.std.specs.Prelude.{◌≡◌, ℕ, ◌+◌, ◌<◌, ◌≤◌, true, ◌↔◌, length, slice_set};
-ghost use Rattle.streets.specs.Streets.{street, leg_code, leaving, stops};
+ghost use Rattle.std.specs.Prelude.{◌≡◌, ◌+◌, ◌<◌, length, slice_set};
+ghost use Rattle.streets.specs.Streets.{leg_code, leaving, stops};
 ghost use Rattle.streets.specs.Meaning.{as_leg};
 ghost use Rattle.town.specs.Layout.{limits_in, streets_in};
 ghost use Rattle.reach.specs.Reach.{entry};
@@ -9,7 +9,8 @@ ghost use Rattle.reach.specs.Searching.{HasRoom, Searching};
 use streets::Leg;
 use town::TownRef;
 
-// The leg along street i that leaves a corner, and where it stops.
+// The leg along street i that leaves a corner, and where it stops. By `requires` i fits 16 bits, so it is cast:
+// `try_from` with `unwrap` is no plainer.
 fn leave(town: &TownRef<'_>, here: u16, i: u32) -> (Leg, u16)
     requires { i < length (streets_in town.now.memory.now) }
     ensures leg { as_leg result.0 ≡ leaving (streets_in town.now.memory.now) here i }
@@ -24,7 +25,7 @@ fn leave(town: &TownRef<'_>, here: u16, i: u32) -> (Leg, u16)
 }
 
 // What a search has found, in memory that the caller lends: a word in each slice for each corner.
-#[derive(Drop)]
+#[derive(Debug, Drop)]
 struct Finds<'m> {
     corners: u16,
     levels: &'m mut [u32],
@@ -52,7 +53,8 @@ impl Finds<'_> {
         self.found += 1;
     }
 
-    // Follows all legs of the next corner in the queue.
+    // Follows all legs of the next corner in the queue. Its words are corners, so they are cast.
+    #[tactic(auto, using(crate::proofs::Following::street_there, crate::proofs::Following::stop_there, crate::proofs::Levels::inside_town))]
     fn follow(&mut self, town: &TownRef<'_>, done: usize)
         requires corners { self.old.corners ≡ (limits_in town.now.memory.now).corners }
         requires next { done < self.old.found }

@@ -4,6 +4,7 @@ use Rattle.streets.specs.Streets.{Street, street, Leg, goes, how_long, times, is
 use Rattle.streets.specs.Counts.{weigh, degree, stretch}
 use Rattle.streets.specs.Pairs.{Links, Linking, Spans, Pairing, odd_once}
 use Rattle.std.proofs.lemmas.Bool.{cases_lt}
+use Rattle.std.proofs.lemmas.List.Elements.{All-nil}
 use Rattle.streets.proofs.Sums.{ones, weigh_split, weigh_more, weigh_ones, weigh_nothing, some_street, taken}
 use Rattle.streets.proofs.Walks.{by_counts}
 use Rattle.streets.proofs.Parity.{parity}
@@ -13,7 +14,7 @@ use Rattle.streets.proofs.Exchange.{Paired, paired_as, exchange}
 module _ (W : Links) (law : Linking W) (ss : List Street) (spans : Spans W ss) where
   none : (t : ℕ → ℕ) → weigh ss ones t ≤ 0 → Paired W (degree ss t) (stretch ss t)
   unfolding total
-  none t few = record { pairs = []; pairing = record { each = λ k. omega (arith, weigh_nothing ss (λ s. ends s k) t few); linked = tt }; cost = omega arith }
+  none t few = record { pairs = []; pairing = record { each = λ k. omega (arith, weigh_nothing ss (λ s. ends s k) t few); linked = All-nil _ }; cost = omega arith }
 
   pairs_within : (bound : ℕ) (t : ℕ → ℕ) → weigh ss ones t ≤ bound → Paired W (degree ss t) (stretch ss t)
   pairs_within zero t few = none t few

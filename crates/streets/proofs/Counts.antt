@@ -1,16 +1,15 @@
 -- How many legs a walk has and how long it is, if it uses no street more than twice.
-use Rattle.std.proofs.Common.{◌≡◌, ℕ, ◌*◌, ◌≤◌, true, List, [], ◌∷◌, length, arith}
-use Rattle.std.specs.List.{AllByRecursion}
+use Rattle.std.proofs.Common.{◌≡◌, ℕ, suc, ◌*◌, ◌≤◌, true, List, [], ◌∷◌, length, All, arith}
 use Rattle.streets.specs.Streets.{Street, Leg, goes, stops, how_long, times, total, all_long, AtMostTwice}
 use Rattle.streets.specs.Counts.{weigh}
 use Rattle.streets.proofs.Sums.{sum_ones, ones, weigh_le, weigh_ones, weigh_twos}
 use Rattle.streets.proofs.Walks.{step, weigh_none, weigh_leg, by_counts}
 
 -- at most m for each street
-pub total_most : (f : Street → ℕ) (m : ℕ) (ss : List Street) → AllByRecursion (λ s. f s ≤ m) ss → total f ss ≤ length ss * m
+pub total_most : (f : Street → ℕ) (m : ℕ) (ss : List Street) → All (λ s. f s ≤ m) ss → total f ss ≤ length ss * m
 unfolding total
 total_most f m [] h = omega arith
-total_most f m (s ∷ ss) h = omega (arith, h.0, total_most f m ss h.1)
+total_most f m (s ∷ ss) h = omega (arith, h 0 s (omega arith), total_most f m ss (λ k d l. h (suc k) d (omega arith)))
 
 module _ (ss : List Street) where
   twice_weighs : (f : Street → ℕ) (ls : List Leg) → AtMostTwice ls (length ss) → weigh ss f (times ls) ≤ 2 * total f ss
@@ -33,5 +32,5 @@ module _ (ss : List Street) where
     twice_long = omega (arith, by_counts ss c ls d walks, twice_weighs (λ s. s.long) ls twice)
 
     -- so two legs of the longest street for each street are enough
-    pub long_fits : (m : ℕ) → AllByRecursion (λ s. s.long ≤ m) ss → how_long ss ls ≤ 2 * (length ss * m)
+    pub long_fits : (m : ℕ) → All (λ s. s.long ≤ m) ss → how_long ss ls ≤ 2 * (length ss * m)
     long_fits m short = omega (arith, twice_long, total_most (λ s. s.long) m ss short)

@@ -1,6 +1,5 @@
 -- Counts of one or two for each street, switched along walks.
-use Rattle.std.proofs.Common.{◌≡◌, ℕ, ◌+◌, ◌-◌, ◌%◌, ◌<◌, true, cond, eqb, ◌⊎◌, List, [], ◌∷◌, length, sym, refl, inl, inr, arith}
-use Rattle.std.specs.List.{AllByRecursion}
+use Rattle.std.proofs.Common.{◌≡◌, ℕ, suc, ◌+◌, ◌-◌, ◌%◌, ◌<◌, true, cond, eqb, ◌⊎◌, List, [], ◌∷◌, length, All, sym, refl, inl, inr, arith}
 use Rattle.std.proofs.lemmas.Bool.{cases_lt}
 use Rattle.std.proofs.lemmas.Bool.Decides.{nat_tests}
 use Rattle.streets.specs.Streets.{Street, street, Leg, stops, goes, how_long, mark, ends, total, ends_at, all_long}
@@ -61,12 +60,12 @@ module _ (ss : List Street) where
   -- along ways between the corners of pairs
   pub switched_pairs : (t : ℕ → ℕ) (ps : List Street) →
       OnceOrTwice ss t →
-      AllByRecursion (λ p. Way ss p.one p.other p.long) ps →
+      All (λ p. Way ss p.one p.other p.long) ps →
       (u : ℕ → ℕ) × Switched ss t (ends_at ps) (all_long ps) u
   unfolding total
   switched_pairs t [] once ws = (t, record { still = once; parity = λ k. omega arith; cost = omega arith })
   switched_pairs t (p ∷ ps) once ws =
-      let w = ws.0 in
+      let w = ws 0 p (omega arith) in
       let first = switched_walk t p.one w.0 p.other once w.1 in
-      let rest = switched_pairs first.0 ps first.1.still ws.1 in
-      (rest.0, rw (← w.2) (switched_on first.1 rest.1 (λ k. refl)))
+      let rest = switched_pairs first.0 ps first.1.still (λ k d l. ws (suc k) d (omega arith)) in
+      (rest.0, switched_on (rw w.2 at first.1) rest.1 (λ k. refl))

@@ -1,6 +1,5 @@
 -- Corners in pairs, and the ways between them.
-use Rattle.std.specs.Prelude.{◌≡◌, ℕ, ◌+◌, ◌%◌, ◌<◌, ◌≤◌, true, List, length}
-use Rattle.std.specs.List.{AllByRecursion}
+use Rattle.std.specs.Prelude.{◌≡◌, ℕ, ◌+◌, ◌%◌, ◌<◌, ◌≤◌, true, List, length, All}
 use Rattle.streets.specs.Streets.{Street, street, Leg, goes, how_long, ends_at}
 
 -- a walk from a to b of length n
@@ -23,7 +22,7 @@ Spans W ss = (i : ℕ) → i < length ss → W (street ss i).one (street ss i).o
 -- a pair is written as a street of its own: two corners, and the length of the link between them. Each corner is in as many pairs as `in_pairs` says
 pub record Pairing (W : Links) (in_pairs : ℕ → ℕ) (ps : List Street) : Type 0 where
   pub each : (k : ℕ) → ends_at ps k ≡ in_pairs k
-  pub linked : AllByRecursion (λ p. W p.one p.other p.long) ps
+  pub linked : All (λ p. W p.one p.other p.long) ps
 
 -- each odd corner in one pair, every other in none
 abbrev pub odd_once : List Street → ℕ → ℕ

@@ -1,5 +1,5 @@
 -- A sequence of calls, each accepted or refused, and when its answers are right, over any state.
-use Rattle.std.specs.Prelude.{◌≡◌, ℕ, Bool, true, false, cond, List, [], ◌∷◌, ◌==◌}
+use Rattle.std.specs.Prelude.{◌≡◌, ℕ, Bool, true, false, if◌then◌else◌, List, [], ◌∷◌, ◌==◌}
 
 -- a test of a call, and the number and place of the refusal where it is not met
 pub record Check : Type 0 where
@@ -13,11 +13,11 @@ asking k p b = record { number = k; place = p; met = b }
 -- number and place of the first check that fails; 0 if none does
 abbrev pub first_number : List Check → ℕ
 first_number [] = 0
-first_number (c ∷ cs) = cond c.met (first_number cs) c.number
+first_number (c ∷ cs) = if c.met then first_number cs else c.number
 
 abbrev pub first_place : List Check → ℕ
 first_place [] = 0
-first_place (c ∷ cs) = cond c.met (first_place cs) c.place
+first_place (c ∷ cs) = if c.met then first_place cs else c.place
 
 -- the checks of a call, in order; the state after it and its right answers, where all are met; the answer that refuses it
 pub record Protocol (State Call Answer : Type 0) : Type 1 where
@@ -38,7 +38,7 @@ module _ {State Call Answer : Type 0} (p : Protocol State Call Answer) where
   turned s c = first_number (p.checks s c)
 
   abbrev pub after : State → Call → State
-  after s c = cond (turned s c == 0) (p.changed s c) s
+  after s c = if turned s c == 0 then p.changed s c else s
 
   abbrev pub right_if : Bool → State → Call → Answer → Type 0
   right_if true s c a = p.may_say s c a

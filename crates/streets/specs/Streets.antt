@@ -1,5 +1,5 @@
 -- Streets, legs, walks and rounds, and the degrees of corners.
-use Rattle.std.specs.Prelude.{ℕ, zero, suc, ◌+◌, ◌*◌, ◌/◌, ◌%◌, ◌<◌, ◌≤◌, Bool, true, false, cond, not, ◌&&◌, List, [], ◌∷◌, length, ◌==◌, nat_lt, slice_index_or}
+use Rattle.std.specs.Prelude.{ℕ, zero, suc, ◌+◌, ◌*◌, ◌/◌, ◌%◌, ◌<◌, ◌≤◌, Bool, true, false, if◌then◌else◌, not, ◌&&◌, List, [], ◌∷◌, length, ◌==◌, nat_lt, slice_index_or}
 
 -- a street: its two ends, which may be one corner, and its length
 pub record Street : Type 0 where
@@ -27,16 +27,16 @@ backward i = record { along = i; back = true }
 
 -- a leg as one number: its street doubled, plus 1 if it is backward
 abbrev pub leg_code : Leg → ℕ
-leg_code l = 2 * l.along + cond l.back 1 0
+leg_code l = 2 * l.along + (if l.back then 1 else 0)
 
 abbrev pub coded : ℕ → Leg
 coded n = record { along = n / 2; back = (n % 2 == 1) }
 
 abbrev pub starts : List Street → Leg → ℕ
-starts ss l = cond l.back (street ss l.along).other (street ss l.along).one
+starts ss l = if l.back then (street ss l.along).other else (street ss l.along).one
 
 abbrev pub stops : List Street → Leg → ℕ
-stops ss l = cond l.back (street ss l.along).one (street ss l.along).other
+stops ss l = if l.back then (street ss l.along).one else (street ss l.along).other
 
 -- the leg along street i that leaves its end c
 abbrev pub leaving : List Street → ℕ → ℕ → Leg
@@ -60,7 +60,7 @@ how_long ss (l ∷ ls) = leg_long ss l + how_long ss ls
 
 -- 1 if the two are equal, else 0
 abbrev pub mark : ℕ → ℕ → ℕ
-mark a k = cond (a == k) 1 0
+mark a k = if a == k then 1 else 0
 
 -- the number of legs along street i
 unfoldable pub times : List Leg → ℕ → ℕ

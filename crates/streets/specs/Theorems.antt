@@ -1,5 +1,5 @@
 -- The theorems about rounds, as types: a proof is a term of the type.
-use Rattle.std.specs.Prelude.{◌≡◌, ℕ, zero, suc, ◌+◌, ◌*◌, ◌%◌, ◌<◌, ◌≤◌, Bool, true, cond, ◌&&◌, ◌↔◌, List, [], ◌∷◌, length, ◌==◌, nat_lt}
+use Rattle.std.specs.Prelude.{◌≡◌, ℕ, zero, suc, ◌+◌, ◌*◌, ◌%◌, ◌<◌, ◌≤◌, Bool, true, if◌then◌else◌, ◌&&◌, ◌↔◌, List, [], ◌∷◌, length, ◌==◌, nat_lt}
 use Rattle.streets.specs.Streets.{Street, joining, street, Leg, forward, backward, goes, how_long, times, is_round, ends_at, odd_corners, all_long, AtMostTwice}
 use Rattle.streets.specs.Calls.{Shortest}
 use Rattle.streets.specs.Pairs.{Way, Spans, Pairing, odd_once, Metric, NoShorter}
@@ -52,7 +52,7 @@ FromAnywhere =
 -- of ss, numbered from i on, the streets with exactly two legs
 unfoldable pub twice_gone : List Street → List Leg → ℕ → List Street
 twice_gone [] ls i = []
-twice_gone (s ∷ ss) ls i = cond (times ls i == 2) (s ∷ twice_gone ss ls (suc i)) (twice_gone ss ls (suc i))
+twice_gone (s ∷ ss) ls i = if times ls i == 2 then s ∷ twice_gone ss ls (suc i) else twice_gone ss ls (suc i)
 
 -- the streets that a shortest round repeats are a T-join of the odd corners, and its length is the total and theirs
 abbrev pub JoinsOdd : Type 0

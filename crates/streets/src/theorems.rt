@@ -1,4 +1,4 @@
-// The theorems about rounds, each owed by a function.
+// The theorems about rounds, each owed by a function of its own.
 ghost use Rattle.streets.specs.Theorems.{OnceEach, ARound, NeverThrice, FromAnywhere, JoinsOdd, InPairs};
 ghost use Rattle.streets.specs.Theorems.{PairsBelow, MetricBelow, PairsAbove, Postman, Tried, TriangleShortest, PathShortest};
 

@@ -1,78 +1,65 @@
 -- Calls that pass their checks.
-use Rattle.std.proofs.Common.{◌≡◌, ℕ, ◌<◌, ◌≤◌, Bool, true, cond, ◌&&◌, eqb, ltb, leb, List, [], ◌∷◌, ◌++◌, length, drop, Some, None, Ok, sym, ap, ◌∙◌, subst, arith}
+use Rattle.std.proofs.Common.{◌≡◌, ℕ, ◌<◌, ◌≤◌, refl, ◌∙◌, cond, ◌&&◌, ltb, leb, List, [], ◌∷◌, ◌++◌, length, drop, Some, None, Ok, eqb, true, sym, ap, arith}
 use Rattle.std.specs.List.{remove}
-use Rattle.std.proofs.lemmas.Bool.{eq-eqb, ltb-true, leb-true, le-leb, and_parts}
+use Rattle.std.proofs.lemmas.Bool.{eq-eqb}
 use Rattle.std.proofs.lemmas.Bool.Decides.{nat_tests}
+use Rattle.std.proofs.lemmas.Option.{cond_some}
 use Rattle.streets.specs.Streets.{Street, joining}
-use Rattle.streets.specs.Protocol.{first_number, right_if}
-use Rattle.streets.specs.Calls.{Limits, longest, Call, opens, closes, odd, round, garbled, Answer, number, checks, changed, may_say, town}
+use Rattle.streets.specs.Protocol.{first_number}
+use Rattle.streets.specs.Calls.{Limits, longest, Call, opens, closes, odd, round, garbled, Answer, number, checks, changed, may_say}
 use Rattle.town.specs.Layout.{limits_in, streets_in, words}
-use Rattle.town.specs.Town.{Proper, Town}
+use Rattle.town.specs.Town.{Proper, Town, Sound}
 use Rattle.town.specs.Changes.{in_range, Opened, Called}
 use Rattle.town.specs.Laws.{MemorySuffices}
+use Rattle.town.proofs.Holding as held
+use Rattle.town.proofs.Holding.{own, owned, own_town, changed_behind}
 
-module _ (m : List ℕ) (c : Call) where
-  pub accepted : (a : Answer) (m' : List ℕ) → first_number (checks (limits_in m) (streets_in m) c) ≡ 0 → may_say (limits_in m) (streets_in m) c a → Town (limits_in m) m' (changed (streets_in m) c) → drop (words (limits_in m)) m' ≡ drop (words (limits_in m)) m → Called m c a m'
-  accepted a m' e may t behind =
-      let l = limits_in m in
-      let ss = streets_in m in
-      let yes : eqb (first_number (checks l ss c)) 0 ≡ true = eq-eqb _ 0 e in
-      record {
-        says = subst (λ (b : Bool). right_if (town l) b ss c a) (sym yes) may;
-        holds = subst (λ (b : Bool). Town l m' (cond b (changed ss c) ss)) (sym yes) t;
-        kept = λ some. absurd (omega arith);
-        behind = behind;
-      }
-
--- what a check that hands on a value, or none, says of its test
-pub handed : {A : Type 0} (b : Bool) (x y : A) → Some x ≡ cond b (Some y) None → (b ≡ true) × (x ≡ y)
-handed b x y e = grind (arith, nat_tests)
+pub accepted : {m m' : List ℕ} {c : Call} {a : Answer} → first_number (checks (limits_in m) (streets_in m) c) ≡ 0 → may_say (limits_in m) (streets_in m) c a → Town (limits_in m) m' (changed (streets_in m) c) → drop (words (limits_in m)) m' ≡ drop (words (limits_in m)) m → Called m c a m'
+accepted {m = m} {c = c} e may t behind =
+    let yes : eqb (first_number (checks (limits_in m) (streets_in m) c)) 0 ≡ true = eq-eqb _ 0 e in
+    record { says = rw yes may; holds = rw yes t; kept = λ some. absurd (omega arith); behind = behind }
 
 -- a town opened with the limits l, handed on by the first check as l₁ and by the second as l₂
-module _ (l l₁ l₂ : Limits) (m : List ℕ) (first : Some l₁ ≡ cond (in_range l) (Some l) None) (second : Some l₂ ≡ cond (leb (words l₁) (length m)) (Some l₁) None) where
-  pub room : words l₂ ≤ length m
-  room = let h = handed _ _ _ second in omega (arith, leb-true _ _ h.0, ap words h.1)
+module _ {l l₁ l₂ : Limits} (m : List ℕ) {n : ℕ} (first : cond (in_range l) (Some l) None ≡ Some l₁) (second : cond (leb (words l₁) (length m)) (Some l₁) None ≡ Some l₂) (all : n ≡ words l₂) where
+  taken : (in_range l ≡ true) × (leb (words l) (length m) ≡ true) × (l ≡ l₂)
+  taken = let a = cond_some _ _ _ first in let b = cond_some _ _ _ second in (a.0, rw a.1 b.0, a.1 ∙ b.1)
 
-  pub town_opened : {A : Type 0} (x : A) (m₂ : List ℕ) → Town l₂ m₂ [] → drop (words l₂) m₂ ≡ drop (words l₂) m → Opened l m (Ok x) m₂
-  town_opened x m₂ t behind =
-      let e : l₂ ≡ l = (handed _ _ _ second).1 ∙ (handed _ _ _ first).1 in
-      let met : leb (words l) (length m) ≡ true = le-leb _ _ (omega (arith, room, ap words e)) in
-      let none : (y z : ℕ) → cond (in_range l) (cond (leb (words l) (length m)) 0 y) z ≡ 0 =
-      λ y z. ap (λ (b : Bool). cond b (cond (leb (words l) (length m)) 0 y) z) (handed _ _ _ first).0 ∙ ap (λ (b : Bool). cond b 0 y) met in
+  pub town_opened : {A : Type 0} {x : A} {ys : List ℕ} → length ys ≡ length (own n m) → Town l₂ ys [] → Opened l m (Ok x) (owned n m ys)
+  town_opened kept t =
+      let room : words l₂ ≤ length m = grind (arith, nat_tests, taken.1, ap words taken.2) in
       record {
-        number = sym (none 3 3);
-        place = sym (none 1 0);
-        holds = λ _. subst (λ (k : Limits). Town k m₂ []) e t;
+        number = rw (taken.0, taken.1) refl;
+        place = rw (taken.0, taken.1) refl;
+        holds = λ _. rw taken.2 (held.put_back _ _ all room kept t);
         kept = λ some. absurd (omega arith);
-        behind = subst (λ (k : Limits). drop (words k) m₂ ≡ drop (words k) m) e behind;
+        behind = rw taken.2 (held.behind_stays _ _ all room _ kept);
       }
 
--- a street opened, when each check has handed on its value
-module _ (m : List ℕ) (a b n a' b' n' i : ℕ) (s : Street) (one : Some a' ≡ cond (ltb a (limits_in m).corners) (Some a) None) (other : Some b' ≡ cond (ltb b (limits_in m).corners) (Some b) None) (long : Some n' ≡ cond (leb 1 n && leb n longest) (Some n) None) (next : Some i ≡ cond (ltb (length (streets_in m)) (limits_in m).streets) (Some (length (streets_in m))) None) (is : s ≡ joining a' b' n') where
-  asked : s ≡ joining a b n
-  asked = let e : joining a' b' n' ≡ joining a b n = cc ((handed _ _ _ one).1, (handed _ _ _ other).1, (handed _ _ _ long).1) in is ∙ e
+module _ {m : List ℕ} {n : ℕ} (t : Sound m) (all : n ≡ words (limits_in m)) where
+  -- a street opened, when each check has handed on its value
+  module _ (a b long : ℕ) {a' b' long' i : ℕ} {s : Street} (is : s ≡ joining a' b' long') (one : cond (ltb a (limits_in m).corners) (Some a) None ≡ Some a') (other : cond (ltb b (limits_in m).corners) (Some b) None ≡ Some b') (fits : cond (leb 1 long && leb long longest) (Some long) None ≡ Some long') (next : cond (ltb (length (streets_in m)) (limits_in m).streets) (Some (length (streets_in m))) None ≡ Some i) where
+    pub can_add : Sound (own n m) × (length (streets_in (own n m)) < (limits_in (own n m)).streets) × Proper (limits_in (own n m)) s
+    can_add =
+        let o = (own_town t all).front in
+        let p : Proper (limits_in m) (joining a' b' long') = record { one_there = grind (arith, nat_tests); other_there = grind (arith, nat_tests); some_long = grind (arith, nat_tests); not_too_long = grind (arith, nat_tests) } in
+        rw (o.limits, o.streets) (own_town t all, grind (arith, nat_tests), rw is p)
 
-  pub can_add : (length (streets_in m) < (limits_in m).streets) × Proper (limits_in m) s
-  can_add =
-      let lengths = and_parts _ _ (handed _ _ _ long).0 in
-      let p : Proper (limits_in m) (joining a b n) =
-      record { one_there = ltb-true _ _ (handed _ _ _ one).0; other_there = ltb-true _ _ (handed _ _ _ other).0; some_long = leb-true _ _ lengths.0; not_too_long = leb-true _ _ lengths.1 } in
-      (ltb-true _ _ (handed _ _ _ next).0, subst (Proper (limits_in m)) (sym asked) p)
+    pub street_opened : {ys : List ℕ} → length ys ≡ length (own n m) → Town (limits_in (own n m)) ys (streets_in (own n m) ++ s ∷ []) → Called m (opens a b long) (number i) (owned n m ys)
+    unfolding changed may_say
+    street_opened kept u =
+        let asked : s ≡ joining a b long = cc ((cond_some _ _ _ one).1, (cond_some _ _ _ other).1, (cond_some _ _ _ fits).1) in
+        accepted (grind (arith, nat_tests)) (ap number (sym (cond_some _ _ _ next).1)) (held.changed t all _ kept (rw ((own_town t all).front.streets, asked) at u)) (changed_behind t all _ kept)
 
-  pub street_opened : (m' : List ℕ) → Town (limits_in m) m' (streets_in m ++ s ∷ []) → drop (words (limits_in m)) m' ≡ drop (words (limits_in m)) m → Called m (opens a b n) (number i) m'
-  unfolding changed may_say
-  street_opened m' t behind =
-      let met : first_number (checks (limits_in m) (streets_in m) (opens a b n)) ≡ 0 =
-      let u = (handed _ _ _ one).0 in let v = (handed _ _ _ other).0 in let w = (handed _ _ _ long).0 in let x = (handed _ _ _ next).0 in grind (arith, nat_tests) in
-      accepted m (opens a b n) (number i) m' met (ap number (handed _ _ _ next).1) (subst (λ (x : Street). Town (limits_in m) m' (streets_in m ++ x ∷ [])) asked t) behind
+  -- a street closed
+  module _ (i : ℕ) {i' : ℕ} (there : cond (ltb i (length (streets_in m))) (Some i) None ≡ Some i') where
+    pub can_remove : Sound (own n m) × (i' < length (streets_in (own n m)))
+    can_remove = let o = (own_town t all).front in rw (o.limits, o.streets) (own_town t all, grind (arith, nat_tests))
 
--- a street closed
-pub street_closed : (m : List ℕ) (i i' : ℕ) → Some i' ≡ cond (ltb i (length (streets_in m))) (Some i) None → (m' : List ℕ) → Town (limits_in m) m' (remove (streets_in m) i') → drop (words (limits_in m)) m' ≡ drop (words (limits_in m)) m → Called m (closes i) (number i') m'
-unfolding changed may_say
-street_closed m i i' there m' t behind =
-    let h = handed _ _ _ there in
-    let met : first_number (checks (limits_in m) (streets_in m) (closes i)) ≡ 0 = let u = h.0 in grind (arith, nat_tests) in
-    accepted m (closes i) (number i') m' met (ap number h.1) (subst (λ (x : ℕ). Town (limits_in m) m' (remove (streets_in m) x)) h.1 t) behind
+    pub street_closed : {ys : List ℕ} → length ys ≡ length (own n m) → Town (limits_in (own n m)) ys (remove (streets_in (own n m)) i') → Called m (closes i) (number i') (owned n m ys)
+    unfolding changed may_say
+    street_closed kept u =
+        let h = (cond_some _ _ _ there).1 in
+        accepted (grind (arith, nat_tests)) (ap number (sym h)) (held.changed t all _ kept (rw ((own_town t all).front.streets, ← h) at u)) (changed_behind t all _ kept)
 
 pub memory_suffices : MemorySuffices
 memory_suffices l ss (opens a b n) e = grind (arith, nat_tests)

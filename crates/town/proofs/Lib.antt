@@ -4,6 +4,7 @@ pub mod Summing
 pub mod Writes
 pub mod Numbering
 pub mod Placing
+pub mod Looping
 pub mod Holding
 pub mod Changing
 pub mod Calling

@@ -1,5 +1,5 @@
 -- The laws of a town in memory.
-use Rattle.std.specs.Prelude.{◌≡◌, ℕ, cond, List, length, count_by, ◌≢◌, nat_eq, nat_lt}
+use Rattle.std.specs.Prelude.{◌≡◌, ℕ, if◌then◌else◌, List, length, count_by, ◌≢◌, nat_eq, nat_lt}
 use Rattle.streets.specs.Streets.{Street, street, ends, ends_at}
 use Rattle.streets.specs.Protocol.{first_number}
 use Rattle.streets.specs.Calls.{Limits, Call, checks}
@@ -8,7 +8,7 @@ use Rattle.town.specs.Town.{Town}
 
 -- the list of a corner has every street as often as it has ends there, and nothing else
 abbrev pub EachEnd : Type 0
-EachEnd = (ss : List Street) (c i : ℕ) → count_by (λ j. nat_eq j i) (streets_at ss c) ≡ cond (nat_lt i (length ss)) (ends (street ss i) c) 0
+EachEnd = (ss : List Street) (c i : ℕ) → count_by (λ j. nat_eq j i) (streets_at ss c) ≡ (if nat_lt i (length ss) then ends (street ss i) c else 0)
 
 -- so it is as long as there are ends at the corner
 abbrev pub AllEnds : Type 0

@@ -1,5 +1,5 @@
 -- The layout of a town's memory: a head, the streets, and the lists of the corners' streets.
-use Rattle.std.specs.Prelude.{ℕ, suc, ◌+◌, ◌-◌, ◌*◌, ◌/◌, List, map, slice_index}
+use Rattle.std.specs.Prelude.{ℕ, suc, ◌+◌, ◌-◌, ◌*◌, ◌/◌, ◌<◌, ◌≤◌, List, map, length, slice_index}
 use Rattle.std.specs.List.{range_with_len}
 use Rattle.streets.specs.Streets.{Street, joining}
 use Rattle.streets.specs.Calls.{Limits, limiting}
@@ -38,6 +38,15 @@ street_in m i = joining (word m (street_from i)) (word m (street_from i + 1)) (w
 
 unfoldable pub streets_in : List ℕ → List Street
 streets_in m = map (street_in m) (range_with_len 0 (count_in m))
+
+-- the streets from the i-th on, up to the n-th
+unfoldable pub streets_left : List ℕ → ℕ → ℕ → List Street
+streets_left m i n = map (street_in m) (range_with_len i (n - i))
+
+-- the words of n streets are there, and their ends are short
+pub record Readable (m : List ℕ) (n : ℕ) : Type 0 where
+  pub room : street_from n ≤ length m
+  pub short : (i : ℕ) → i < n → (word m (street_from i) < 65536) × (word m (street_from i + 1) < 65536)
 
 -- where the first corner's list begins, and for each corner where its list stops, which is where the next one begins
 abbrev pub corner_words : ℕ

@@ -1,11 +1,11 @@
 // Towns opened, and streets opened and closed. Each call takes time linear in corners and streets.
-ghost use Rattle.std.specs.Prelude.{◌≡◌, ◌<◌, ◌≤◌, ◌&&◌, [], ◌∷◌, ◌++◌, length, if◌then◌else◌, Some, None, nat_le, nat_lt};
+ghost use Rattle.std.specs.Prelude.{◌≡◌, ◌<◌, ◌≤◌, ◌&&◌, [], ◌∷◌, ◌++◌, length, if◌then◌else◌, Some, None, nat_le};
 ghost use Rattle.std.specs.Option.{option_map};
 ghost use Rattle.std.specs.List.{remove};
 ghost use Rattle.streets.specs.Calls.{limiting, longest, opens, closes};
 ghost use Rattle.streets.specs.Meaning.{as_street};
 ghost use Rattle.town.specs.Layout.{limits_in, streets_in, words};
-ghost use Rattle.town.specs.Town.{Proper, Front, Town, Sound};
+ghost use Rattle.town.specs.Town.{Proper, Town, Sound};
 ghost use Rattle.town.specs.Meaning.{as_limits, answered};
 ghost use Rattle.town.specs.Changes.{Opened, Called};
 
@@ -35,7 +35,8 @@ fn begin(town: &mut [u32], limits: Limits)
     write_lists(town);
 }
 
-// Makes memory a town without streets. What lies behind the words that it asks for stays.
+// Makes memory a town without streets. The limits are numbers here, since those out of range are refused.
+// What lies behind the words that it asks for stays.
 pub fn open_town(memory: &mut [u32], corners: u32, streets: u32) -> Result<(), Refusal>
     ensures { Opened (limiting corners streets) memory.old result memory.new }
 {
@@ -55,6 +56,8 @@ fn proper_length(long: u32) -> Option<u32>
 {
     (1..=LONGEST).contains(&long).then_some(long)
 }
+
+// What follows asks for a sound town by itself: a ghost field would have to hold between its writes.
 
 // With one street more.
 fn add(town: &mut [u32], s: Street)
@@ -82,7 +85,7 @@ fn remove(town: &mut [u32], i: u16)
 }
 
 // The town that lent memory holds, to change. It stays in the same memory.
-#[derive(Drop)]
+#[derive(Debug, Drop)]
 pub struct TownMut<'m> {
     pub memory: &'m mut [u32],
     pub ghost sound: { Sound memory.now },
@@ -97,32 +100,25 @@ impl TownMut<'_> {
         }
     }
 
-    // The number of the next street, if the limit allows one more.
-    fn next_number(&self) -> Option<u16>
-        ensures { result ≡ (if nat_lt (length (streets_in self.now.memory.now)) (limits_in self.now.memory.now).streets then Some (length (streets_in self.now.memory.now)) else None) }
-    {
-        let n = self.read().count();
-        (n < self.read().limits().streets).then_some(n)
-    }
-
     // Opens a street, and answers with its number.
     pub fn open_street(&mut self, one: u32, other: u32, long: u32) -> Result<u16, Refusal>
         ensures same_memory { self.new.memory.ghost_name ≡ self.old.memory.ghost_name }
         ensures called { Called self.old.memory.now (opens one other long) (answered result) self.new.memory.now }
     {
-        let Some(one) = self.read().corner(one) else {
+        let town = self.read();
+        let Some(one) = town.corner(one) else {
             return Err(Refusal::NotThere);
         };
-        let Some(other) = self.read().corner(other) else {
+        let Some(other) = town.corner(other) else {
             return Err(Refusal::NotThere);
         };
         let Some(long) = proper_length(long) else {
             return Err(Refusal::Length);
         };
-        let Some(i) = self.next_number() else {
+        let Some(i) = town.next_number() else {
             return Err(Refusal::Full);
         };
-        let n = self.read().words();
+        let n = town.words();
         add(&mut self.memory[0..n], Street::new(one, other, long));
         Ok(i)
     }
@@ -132,10 +128,11 @@ impl TownMut<'_> {
         ensures same_memory { self.new.memory.ghost_name ≡ self.old.memory.ghost_name }
         ensures called { Called self.old.memory.now (closes i) (answered result) self.new.memory.now }
     {
-        let Some(i) = self.read().number(i) else {
+        let town = self.read();
+        let Some(i) = town.street_number(i) else {
             return Err(Refusal::NotThere);
         };
-        let n = self.read().words();
+        let n = town.words();
         remove(&mut self.memory[0..n], i);
         Ok(i)
     }

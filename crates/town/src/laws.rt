@@ -1,4 +1,4 @@
-// The laws of a town in memory, each owed by a function.
+// The laws of a town in memory, each owed by a function of its own.
 ghost use Rattle.town.specs.Laws.{EachEnd, AllEnds, OneTown, MemorySuffices};
 
 #[tactic(auto, using(crate::proofs::Ends::each_end))]
@@ -6,6 +6,7 @@ pub fn each_end()
     ensures { EachEnd }
 {}
 
+#[tactic(auto, using(crate::proofs::Ends::all_ends))]
 pub fn all_ends()
     ensures { AllEnds }
 {}

@@ -1,22 +1,24 @@
 // Where memory has what: head, streets, and where the corners' lists stand. The lists are written by `lists`.
-ghost use Rattle.std.specs.Prelude.{◌≡◌, ℕ, suc, ◌+◌, ◌-◌, ◌*◌, ◌<◌, ◌≤◌, [], length, take, drop, if◌then◌else◌, Some, None, slice_set};
+ghost use Rattle.std.specs.Prelude.{◌≡◌, ℕ, suc, ◌+◌, ◌*◌, ◌<◌, ◌≤◌, [], length, if◌then◌else◌, Some, None, slice_set};
 ghost use Rattle.std.specs.Option.{option_map};
+ghost use Rattle.std.specs.Iterator.{YieldsFirstBy, item_count};
 ghost use Rattle.streets.specs.Streets.{street};
 ghost use Rattle.streets.specs.Calls.{limiting};
 ghost use Rattle.streets.specs.Meaning.{as_street};
 ghost use Rattle.town.specs.Corners.{streets_at};
-ghost use Rattle.town.specs.Layout.{corner_words, count_at, head_words, word, street_words, limits_in, streets_in, street_from, starts_from, lists_from, words, budget};
-ghost use Rattle.town.specs.Town.{Front, Ready, Sound};
+ghost use Rattle.town.specs.Layout.{corner_words, count_at, head_words, word, street_words, streets_left, Readable, limits_in, streets_in, street_from, street_in, starts_from, lists_from, words, budget};
+ghost use Rattle.town.specs.Town.{Front, Ready};
 ghost use Rattle.town.specs.Meaning.{as_limits};
 ghost use Rattle.town.specs.Changes.{in_range};
 
 use super::limit::Limits;
 use super::reading::TownRef;
+use std::ops::Range;
 use streets::Street;
 
-const MOST_CORNERS: u32 = 256;
+const MOST_CORNERS: u16 = 256;
 
-const MOST_STREETS: u32 = 1024;
+const MOST_STREETS: u16 = 1024;
 
 // The head: the limits, and the number of streets.
 const CORNERS: usize = 0;
@@ -42,17 +44,26 @@ fn street_from(i: u16) -> usize
     HEAD_WORDS + STREET_WORDS * usize::from(i)
 }
 
+#[tactic(auto, unfolding(crate::specs::Layout::street_in))]
+fn street_at(words: &[u32], i: u16) -> Street
+    requires there { street_from i + 2 < length words.now }
+    requires short { (word words.now (street_from i) < 65536) × (word words.now (street_from i + 1) < 65536) }
+    ensures { as_street result ≡ street_in words.now i }
+{
+    let at = street_from(i);
+    Street::new(words[at] as u16, words[at + 1] as u16, words[at + 2])
+}
+
 impl Limits {
     pub fn new(corners: u32, streets: u32) -> Option<Limits>
         ensures { option_map as_limits result ≡ (if in_range (limiting corners streets) then Some (limiting corners streets) else None) }
     {
-        if corners < 1 || corners > MOST_CORNERS || streets > MOST_STREETS {
+        let corners = u16::try_from(corners).ok()?;
+        let streets = u16::try_from(streets).ok()?;
+        if !(1..=MOST_CORNERS).contains(&corners) || streets > MOST_STREETS {
             return None;
         }
-        Some(Limits {
-            corners: corners as u16,
-            streets: streets as u16,
-        })
+        Some(Limits { corners, streets })
     }
 
     pub(crate) fn starts_from(self) -> usize
@@ -86,14 +97,17 @@ pub fn put_head(memory: &mut [u32], limits: Limits)
     memory[COUNT] = 0;
 }
 
-// Head and streets of a town. The corners' lists need not be those of its streets.
-#[derive(Clone, Copy)]
+// Head and streets of a town. The corners' lists need not be those of its streets; where they are, it is a `TownRef`, which
+// hands on to this what asks for no more. A `Deref` would be no plainer: `street` asks here that the street is there.
+// Limits, counts and ends fit 16 bits by `ready`, so they are cast: `try_from` with `unwrap` is no plainer.
+#[derive(Clone, Copy, Debug, PartialEq, Eq, Hash)]
 pub struct Head<'m> {
     pub memory: &'m [u32],
     pub ghost ready: { Ready memory.now },
 }
 
 impl Head<'_> {
+    #[tactic(auto, using(crate::proofs::Layouts::limit_short), unfolding(crate::specs::Layout::limits_in))]
     pub fn limits(&self) -> Limits
         ensures { as_limits result ≡ limits_in self.now.memory.now }
     {
@@ -137,34 +151,61 @@ impl Head<'_> {
         self.memory[COUNT] as u16
     }
 
+    #[tactic(auto, using(crate::proofs::Layouts::street_read))]
     pub fn street(&self, i: u16) -> Street
         requires { i < length (streets_in self.now.memory.now) }
         ensures { as_street result ≡ street (streets_in self.now.memory.now) i }
     {
-        let at = street_from(i);
-        Street::new(
-            self.memory[at] as u16,
-            self.memory[at + 1] as u16,
-            self.memory[at + 2],
-        )
+        street_at(self.memory, i)
     }
 }
 
-impl TownRef<'_> {
-    // Where the list of a corner begins, and where it stops.
-    pub(super) fn list_at(&self, c: u16) -> (usize, usize)
+// The streets that stand in `words`, in order. What a town has behind them need not be there.
+#[derive(Debug, Drop, PartialEq, Eq, Hash)]
+pub struct Streets<'m> {
+    pub words: &'m [u32],
+    pub left: Range<u16>,
+    pub ghost readable: { Readable words.now left.end },
+}
+
+impl<'m> Streets<'m> {
+    pub fn new(words: &'m [u32], count: u16) -> Streets<'m>
+        requires { Readable words.now count }
+        ensures { streets_left result.words.now result.left.start result.left.end ≡ streets_left words.now 0 count }
+    {
+        Streets {
+            words,
+            left: 0..count,
+        }
+    }
+}
+
+impl Iterator for Streets<'_> {
+    type Item = Street;
+
+    ghost next_gives = { YieldsFirstBy as_street (λ s. streets_left s.words.now s.left.start s.left.end) };
+
+    ghost remaining = { item_count (λ s. streets_left s.words.now s.left.start s.left.end) };
+
+    #[tactic(auto, using(crate::proofs::Layouts::none_left, crate::proofs::Layouts::one_less_left))]
+    fn next(&mut self) -> Option<Street> {
+        let i = self.left.next()?;
+        Some(street_at(self.words, i))
+    }
+}
+
+impl<'m> TownRef<'m> {
+    // The list of a corner. A u32 is cast to a usize, for which std has no `From`.
+    pub(super) fn list_at(&self, c: u16) -> &'m [u32]
         requires { c < (limits_in self.now.memory.now).corners }
-        ensures forward { result.0 ≤ result.1 }
-        ensures within { result.1 ≤ length self.now.memory.now }
-        ensures list { take (result.1 - result.0) (drop result.0 self.now.memory.now) ≡ streets_at (streets_in self.now.memory.now) c }
+        ensures { result.now ≡ streets_at (streets_in self.now.memory.now) c }
     {
         let limits = self.limits();
         let at = limits.starts_from() + usize::from(c);
         let lists = limits.lists_from();
-        (
-            lists + self.memory[at] as usize,
-            lists + self.memory[at + 1] as usize,
-        )
+        let start = lists + self.memory[at] as usize;
+        let stop = lists + self.memory[at + 1] as usize;
+        &self.memory[start..stop]
     }
 }
 

@@ -12,7 +12,7 @@ use super::limit::Limits;
 use streets::Street;
 
 // The town that lent memory holds, to read.
-#[derive(Clone, Copy, Debug)]
+#[derive(Clone, Copy, Debug, PartialEq, Eq, Hash)]
 pub struct TownRef<'m> {
     pub memory: &'m [u32],
     pub ghost sound: { Sound memory.now },
@@ -26,7 +26,7 @@ fn below(i: u32, n: u16) -> Option<u16>
 }
 
 impl<'m> TownRef<'m> {
-    fn front(&self) -> Head<'m>
+    fn head(&self) -> Head<'m>
         ensures { result.memory.now ≡ self.now.memory.now }
     {
         Head {
@@ -38,45 +38,53 @@ impl<'m> TownRef<'m> {
     pub fn limits(&self) -> Limits
         ensures { as_limits result ≡ limits_in self.now.memory.now }
     {
-        self.front().limits()
+        self.head().limits()
     }
 
     // How many words of memory are the town's.
     pub(super) fn words(&self) -> usize
         ensures { result ≡ words (limits_in self.now.memory.now) }
     {
-        self.front().words()
+        self.head().words()
     }
 
     // The number of streets.
     pub fn count(&self) -> u16
         ensures { result ≡ length (streets_in self.now.memory.now) }
     {
-        self.front().count()
+        self.head().count()
     }
 
     // The corner with this number, if the town has it.
     pub fn corner(&self, c: u32) -> Option<u16>
         ensures { result ≡ (if nat_lt c (limits_in self.now.memory.now).corners then Some c else None) }
     {
-        below(c, self.front().corners())
+        below(c, self.head().corners())
     }
 
     // The number of the i-th street, if the town has it.
-    pub(super) fn number(&self, i: u32) -> Option<u16>
+    pub(super) fn street_number(&self, i: u32) -> Option<u16>
         ensures { result ≡ (if nat_lt i (length (streets_in self.now.memory.now)) then Some i else None) }
     {
         below(i, self.count())
+    }
+
+    // The number of the next street, if the limit allows one more.
+    pub(super) fn next_number(&self) -> Option<u16>
+        ensures { result ≡ (if nat_lt (length (streets_in self.now.memory.now)) (limits_in self.now.memory.now).streets then Some (length (streets_in self.now.memory.now)) else None) }
+    {
+        let n = self.count();
+        (n < self.limits().streets).then_some(n)
     }
 
     // The i-th street; past the last, a loop of length 0.
     pub fn street(&self, i: u32) -> Street
         ensures { as_street result ≡ street (streets_in self.now.memory.now) i }
     {
-        let Some(i) = self.number(i) else {
+        let Some(i) = self.street_number(i) else {
             return Street::new(0, 0, 0);
         };
-        self.front().street(i)
+        self.head().street(i)
     }
 
     // The streets that have an end at a corner, in increasing order; a loop is there twice.
@@ -87,11 +95,12 @@ impl<'m> TownRef<'m> {
         let Some(c) = self.corner(c) else {
             return &self.memory[0..0];
         };
-        let (start, stop) = self.list_at(c);
-        &self.memory[start..stop]
+        self.list_at(c)
     }
 
-    // The number of ends of streets at a corner.
+    // The number of ends of streets at a corner: two for each street at most, so it is cast. `try_from` with `unwrap` is
+    // no plainer.
+    #[tactic(auto, using(crate::proofs::Ends::all_ends, crate::proofs::Layouts::short_degree))]
     pub fn degree(&self, c: u32) -> u16
         ensures { result ≡ ends_at (streets_in self.now.memory.now) c }
     {

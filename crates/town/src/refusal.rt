@@ -11,6 +11,7 @@ pub enum Refusal {
     Full,
 }
 
+// Two cases have the same number, so neither it nor the place can be the enum's own. The text is the program's.
 impl Refusal {
     pub fn number(self) -> u32
         ensures { result ≡ refusal_number self }

@@ -1,6 +1,7 @@
 -- Legs in bytes, two for each.
 use Rattle.std.proofs.Common.{◌≡◌, ℕ, zero, suc, ◌+◌, ◌*◌, ◌<◌, ◌≤◌, List, [], ◌∷◌, ◌++◌, map, length, get_or, take, drop, refl, ap, ◌∙◌, arith}
 use Rattle.std.proofs.lemmas.List.{get_or-drop, length-drop, map_more, length-map, length-take}
+use Rattle.std.proofs.lemmas.List.Elements.{All-map}
 use Rattle.std.proofs.lemmas.Nat.{le_bytes_2, from_le_bytes-to_le_bytes_2}
 use Rattle.std.proofs.lemmas.Grind.{common_steps}
 use Rattle.std.proofs.lemmas.Bool.Decides.{nat_tests}
@@ -78,10 +79,9 @@ pub legs_in_again : (ls : List Leg) (bs : List ℕ) → Short ls → legs_in (le
 unfolding legs_row legs_in
 legs_in_again [] bs h = refl
 legs_in_again (l ∷ ls) bs h =
-    let first = leg_at_again l (legs_row ls ++ bs) h.0 in
-    ap (λ x. x ∷ legs_in (length ls) (legs_row ls ++ bs)) first ∙ ap (λ xs. l ∷ xs) (legs_in_again ls bs h.1)
+    let first = leg_at_again l (legs_row ls ++ bs) (h 0 l (omega arith)) in
+    ap (λ x. x ∷ legs_in (length ls) (legs_row ls ++ bs)) first ∙ ap (λ xs. l ∷ xs) (legs_in_again ls bs (λ k d i. h (suc k) d (omega arith)))
 
 -- the code's legs are short
 pub short_legs : (xs : List LegStruct) → Short (map as_leg xs)
-short_legs [] = tt
-short_legs (x ∷ xs) = (x.short, short_legs xs)
+short_legs xs = All-map (λ l. l.along < 32768) as_leg xs (λ k d _. (get_or xs k d).short)

@@ -1,6 +1,5 @@
 -- Calls and answers as rows of bytes.
-use Rattle.std.specs.Prelude.{ℕ, zero, suc, ◌+◌, ◌*◌, ◌/◌, ◌%◌, ◌<◌, min, if◌then◌else◌, List, [], ◌∷◌, ◌++◌, length, take, drop, Ok, Err, Result, ◌==◌}
-use Rattle.std.specs.List.{AllByRecursion}
+use Rattle.std.specs.Prelude.{ℕ, zero, suc, ◌+◌, ◌*◌, ◌/◌, ◌%◌, ◌<◌, min, if◌then◌else◌, List, [], ◌∷◌, ◌++◌, length, take, drop, Ok, Err, Result, ◌==◌, All}
 use Rattle.streets.specs.Streets.{Leg, leg_code, coded}
 use Rattle.streets.specs.Calls.{Call, opens, closes, odd, round, garbled, Answer, refused, number, shortest, some_round, never}
 use Rattle.wire.specs.Rows.{word, word_at, pair_at}
@@ -41,7 +40,7 @@ first_row (k ∷ bs) = k ∷ take (fields_size k) bs
 
 -- the legs that two bytes can hold
 abbrev pub Short : List Leg → Type 0
-Short ls = AllByRecursion (λ l. l.along < 32768) ls
+Short ls = All (λ l. l.along < 32768) ls
 
 -- a leg's number as two bytes, little-endian, and the leg whose number stands at an index
 abbrev pub leg_row : Leg → List ℕ

@@ -16,6 +16,7 @@ use streets::Leg;
 pub const LEGS_AT: usize = 5;
 
 // An answer without its legs: it has their count, and they stay in the answer's bytes, from LEGS_AT on.
+// A refusal has any number and place: the format carries them and does not judge them, so no enum can.
 #[derive(Clone, Copy, Debug, PartialEq, Eq, Hash)]
 pub enum Answer {
     Refused { number: u32, place: u32 },
@@ -42,6 +43,7 @@ impl Answer {
 }
 
 // An answer's row is written around its legs, which are in `bytes` already.
+// A u32 is cast to a usize, for which std has no `From`; an enum to its number, as Rust does.
 impl Row for Answer {
     ghost row_over = { λ bytes answer. answer_row (as_answer (drop legs_at bytes) answer) };
 
@@ -68,13 +70,14 @@ impl Row for Answer {
             Answer::Shortest { legs } => put_word(bytes, 1, legs),
             Answer::SomeRound { legs, low } => {
                 put_word(bytes, 1, legs);
-                put_word(bytes, 5 + 2 * legs as usize, low);
+                put_word(bytes, LEGS_AT + 2 * legs as usize, low);
             }
             Answer::Never => {}
         }
     }
 }
 
+// The answer of a round by its count of legs.
 fn counting(legs: u32, low: Option<u32>) -> Answer
     ensures { result ≡ counted legs low }
 {
@@ -114,7 +117,7 @@ impl TryFrom<&[u8]> for Answer {
 
     ghost try_from_gives = { λ row r. read_as (as_answer (drop legs_at row.now)) r ≡ answer_in row.now };
 
-    // The answer that a row is, its legs left where they are.
+    // The answer that a row is, its legs left where they are. A u32 is cast to a usize, for which std has no `From`.
     fn try_from(row: &[u8]) -> Result<Answer, Unreadable> {
         let Some((&first, rest)) = row.split_first() else {
             return Err(Unreadable { place: 0 });

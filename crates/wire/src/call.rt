@@ -1,5 +1,5 @@
 // Calls as rows of bytes.
-ghost use Rattle.std.specs.Prelude.{◌≡◌, length};
+ghost use Rattle.std.specs.Prelude.{◌≡◌};
 ghost use Rattle.wire.specs.Format.{call_row, call_in, first_row};
 ghost use Rattle.wire.specs.Meaning.{as_call, read_as};
 
@@ -53,10 +53,7 @@ pub fn first_row(calls: &[u8]) -> &[u8]
     let Some(&first) = calls.first() else {
         return calls;
     };
-    let fields = match CallKind::try_from(first) {
-        Ok(kind) => kind.fields(),
-        Err(_) => 0,
-    };
+    let fields = CallKind::try_from(first).map_or(0, CallKind::fields);
     &calls[..calls.len().min(1 + fields)]
 }
 
@@ -75,6 +72,7 @@ impl Call {
     }
 }
 
+// An enum is cast to its number, as Rust does.
 impl Row for Call {
     ghost row_over = { λ _ call. call_row (as_call call) };
 

@@ -1,4 +1,4 @@
-// The laws of the format, each owed by a function.
+// The laws of the format, each owed by a function of its own.
 ghost use Rattle.wire.specs.Laws.{CallAgain, CallRowAgain, OneCallRow, FirstRow, AnswerAgain, AnswerRowAgain, Room};
 
 #[tactic(auto, using(crate::proofs::Reading::call_again))]

@@ -1,4 +1,4 @@
-// Legs of two bytes, in the part of an answer that is theirs.
+// Legs of two bytes, in the part of an answer that is theirs. A leg is told by its place, as an element of a slice is.
 ghost use Rattle.std.specs.Prelude.{◌≡◌, ◌+◌, ◌*◌, ◌≤◌, map, length, if◌then◌else◌, Some, None, nat_le};
 ghost use Rattle.std.specs.Option.{option_map};
 ghost use Rattle.streets.specs.Meaning.{as_leg};

@@ -15,5 +15,5 @@ pub use answer::{Answer, LEGS_AT, write_round};
 pub use call::{Call, first_row};
 pub use legs::{read_leg, write_leg, write_legs};
 pub use row::{Row, write};
-pub use sequence::Rows;
+pub use sequence::CallRows;
 pub use unreadable::Unreadable;

@@ -15,7 +15,7 @@ pub trait Row {
         ensures { bytes.new ≡ put bytes.old 0 (row_over bytes.old self.now) };
 }
 
-// Writes a row to the front of the bytes; its length, or None if they are too few.
+// Writes a row to the front of the bytes; its length, since more may be lent, or None if they are too few.
 pub fn write<R: Row>(row: &R, bytes: &mut [u8]) -> Option<usize>
     ensures { Written (R.row_over bytes.old row.now) bytes.old result bytes.new }
 {

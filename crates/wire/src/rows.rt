@@ -1,4 +1,5 @@
-// Rows of bytes, and numbers of four bytes in them, little-endian.
+// Rows of bytes, and numbers of four bytes in them, little-endian. A number is told by its place in the whole row, as the
+// format counts: handed on as a part, it would ask each caller for the proof that the part is there.
 ghost use Rattle.std.specs.Prelude.{◌≡◌, ◌+◌, ◌≤◌, length};
 ghost use Rattle.wire.specs.Rows.{word, word_at, put};
 ghost use Rattle.wire.specs.Format.{fitting};

@@ -6,12 +6,12 @@ ghost use Rattle.wire.specs.Format.{first_row};
 use super::call::first_row;
 
 // The rows of a sequence of calls, of which the last may be cut short.
-#[derive(Clone, Copy, Debug)]
-pub struct Rows<'a> {
+#[derive(Clone, Copy, Debug, PartialEq, Eq, Hash)]
+pub struct CallRows<'a> {
     pub rest: &'a [u8],
 }
 
-impl<'a> Iterator for Rows<'a> {
+impl<'a> Iterator for CallRows<'a> {
     type Item = &'a [u8];
 
     ghost next_gives = { λ s r t. MatchOption r (s.rest.now ≡ []) (λ row. (row.now ≡ first_row s.rest.now) × (s.rest.now ≡ row.now ++ t.rest.now)) };

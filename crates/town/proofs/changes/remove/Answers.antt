@@ -5,9 +5,9 @@ use Rattle.town.proofs.changes.remove.Goals as goal
 pub write_lists-requires : goal.write_lists-requires
 write_lists-requires c =
     let moved = c.move_down.ensures in
-    ready _ _ _ (front_removed _ _ _ c.requires.holds.front _ _ _ _ c.requires.there c.count-n.ensures c.move_down.auto.memory moved.moved moved.before c.set_count.ensures)
+    ready (front_removed c.requires.holds.front _ _ c.requires.there c.count-n.ensures c.move_down.auto.memory moved.moved moved.before c.set_count.ensures)
 
 pub returns : goal.returns
 returns c =
     let moved = c.move_down.ensures in
-    relisted _ _ _ (front_removed _ _ _ c.requires.holds.front _ _ _ _ c.requires.there c.count-n.ensures c.move_down.auto.memory moved.moved moved.before c.set_count.ensures) _ c.write_lists.ensures
+    relisted (front_removed c.requires.holds.front _ _ c.requires.there c.count-n.ensures c.move_down.auto.memory moved.moved moved.before c.set_count.ensures) c.write_lists.ensures
