@@ -57,7 +57,7 @@ fn words(rt: HostRuntime) -> Result<(), Fail> {
     Ok(())
 }
 
-// The words of the town's memory.
+// The words of the town's memory. Each test makes its town itself: no function can hand on one in an array of its own.
 fn words_of(town: &TownMut<'_>) -> Result<[u32; 24], Fail> {
     check(town.memory.len() == 24)?;
     let mut words = [0; 24];

@@ -13,6 +13,7 @@ pub enum Refused {
     Turned(Refusal),
 }
 
+// One conversion for each error that `?` meets.
 impl From<Unreadable> for Refused {
     ghost from_gives = { λ e r. r ≡ Unread e };
 

@@ -24,7 +24,8 @@ fn leave(town: &TownRef<'_>, here: u16, i: u32) -> (Leg, u16)
     (leg, s.across(here))
 }
 
-// What a search has found, in memory that the caller lends: a word in each slice for each corner.
+// What a search has found: a word in each slice for each corner, since memory is lent as words. A corner that is not found
+// has the level 0; of the queue the first `found` are used.
 #[derive(Debug, Drop)]
 struct Finds<'m> {
     corners: u16,
@@ -53,7 +54,8 @@ impl Finds<'_> {
         self.found += 1;
     }
 
-    // Follows all legs of the next corner in the queue. Its words are corners, so they are cast.
+    // Follows all legs of the next corner in the queue. Its words are corners, so they fit 16 bits and are cast: `try_from`
+    // with `unwrap` is no plainer.
     #[tactic(auto, using(crate::proofs::Following::street_there, crate::proofs::Following::stop_there, crate::proofs::Levels::inside_town))]
     fn follow(&mut self, town: &TownRef<'_>, done: usize)
         requires corners { self.old.corners ≡ (limits_in town.now.memory.now).corners }

@@ -57,7 +57,7 @@ fn proper_length(long: u32) -> Option<u32>
     (1..=LONGEST).contains(&long).then_some(long)
 }
 
-// What follows asks for a sound town by itself: a ghost field would have to hold between its writes.
+// `add` and `remove` ask for a sound town themselves: a ghost field would have to hold between their writes.
 
 // With one street more.
 fn add(town: &mut [u32], s: Street)
@@ -100,7 +100,7 @@ impl TownMut<'_> {
         }
     }
 
-    // Opens a street, and answers with its number.
+    // Opens a street, and answers with its number. Numbers here: a `Street` is the three together, once they are checked.
     pub fn open_street(&mut self, one: u32, other: u32, long: u32) -> Result<u16, Refusal>
         ensures same_memory { self.new.memory.ghost_name ≡ self.old.memory.ghost_name }
         ensures called { Called self.old.memory.now (opens one other long) (answered result) self.new.memory.now }

@@ -1,4 +1,5 @@
-// Where memory has what: head, streets, and where the corners' lists stand. The lists are written by `lists`.
+// Where memory has what: head, streets, and where the corners' lists stand. The lists are written by `lists`. All is one
+// slice of words, since the caller lends the memory and there is no heap.
 ghost use Rattle.std.specs.Prelude.{◌≡◌, ℕ, suc, ◌+◌, ◌*◌, ◌<◌, ◌≤◌, [], length, if◌then◌else◌, Some, None, slice_set};
 ghost use Rattle.std.specs.Option.{option_map};
 ghost use Rattle.std.specs.Iterator.{YieldsFirstBy, item_count};
@@ -44,6 +45,7 @@ fn street_from(i: u16) -> usize
     HEAD_WORDS + STREET_WORDS * usize::from(i)
 }
 
+// By `short` the ends fit 16 bits, so they are cast: `try_from` with `unwrap` is no plainer.
 #[tactic(auto, unfolding(crate::specs::Layout::street_in))]
 fn street_at(words: &[u32], i: u16) -> Street
     requires there { street_from i + 2 < length words.now }
@@ -55,6 +57,7 @@ fn street_at(words: &[u32], i: u16) -> Street
 }
 
 impl Limits {
+    // Numbers here: `Limits` is the two together, once they are in range.
     pub fn new(corners: u32, streets: u32) -> Option<Limits>
         ensures { option_map as_limits result ≡ (if in_range (limiting corners streets) then Some (limiting corners streets) else None) }
     {
@@ -151,6 +154,7 @@ impl Head<'_> {
         self.memory[COUNT] as u16
     }
 
+    // That it is there is asked: a number that says so would be of one town's memory.
     #[tactic(auto, using(crate::proofs::Layouts::street_read))]
     pub fn street(&self, i: u16) -> Street
         requires { i < length (streets_in self.now.memory.now) }

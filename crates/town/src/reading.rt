@@ -77,7 +77,8 @@ impl<'m> TownRef<'m> {
         (n < self.limits().streets).then_some(n)
     }
 
-    // The i-th street; past the last, a loop of length 0.
+    // The i-th street; past the last, a loop of length 0, as in the definition: an `Option` would give every loop over a
+    // corner's list a case that can't come.
     pub fn street(&self, i: u32) -> Street
         ensures { as_street result ≡ street (streets_in self.now.memory.now) i }
     {

@@ -87,7 +87,7 @@ fn counting(legs: u32, low: Option<u32>) -> Answer
     }
 }
 
-// Writes the answer of a round, with its legs.
+// Writes the answer of a round, with its legs; its length, since more may be lent.
 pub fn write_round(legs: &[Leg], low: Option<u32>, bytes: &mut [u8]) -> Option<usize>
     ensures { RoundWritten (map as_leg legs.now) low bytes.old result bytes.new }
 {
@@ -117,7 +117,8 @@ impl TryFrom<&[u8]> for Answer {
 
     ghost try_from_gives = { λ row r. read_as (as_answer (drop legs_at row.now)) r ≡ answer_in row.now };
 
-    // The answer that a row is, its legs left where they are. A u32 is cast to a usize, for which std has no `From`.
+    // The answer that a row is, its legs left where they are. It begins as reading a call does: a function for that would
+    // need a bound whose error is fixed. A u32 is cast to a usize, for which std has no `From`.
     fn try_from(row: &[u8]) -> Result<Answer, Unreadable> {
         let Some((&first, rest)) = row.split_first() else {
             return Err(Unreadable { place: 0 });

@@ -1,4 +1,4 @@
-// The first byte of a row, which says what the row is.
+// The first byte of a row, which says what the row is. Calls and answers have a table each: no case is in both.
 ghost use Rattle.std.specs.Prelude.{◌≡◌};
 ghost use Rattle.wire.specs.Kinds.{call_code, answer_fields, ReadsCallKind, ReadsAnswerKind};
 ghost use Rattle.wire.specs.Format.{fields_size};
