@@ -14,7 +14,7 @@ pub struct CallRows<'a> {
 impl<'a> Iterator for CallRows<'a> {
     type Item = &'a [u8];
 
-    ghost next_gives = { λ s r t. MatchOption r (s.rest.now ≡ []) (λ row. (row.now ≡ first_row s.rest.now) × (s.rest.now ≡ row.now ++ t.rest.now)) };
+    ghost next_gives = { λ s r t. MatchOption r ((s.rest.now ≡ []) × (t.rest.now ≡ [])) (λ row. (row.now ≡ first_row s.rest.now) × (s.rest.now ≡ row.now ++ t.rest.now)) };
 
     ghost remaining = { λ s. at_most (length s.rest.now) };
 
