@@ -1,4 +1,6 @@
 // Towns: limits and memory at their bounds, refusals and what they leave, the streets of each corner.
+ghost use Rattle.std.specs.Prelude.{◌≡◌};
+
 use super::check::{check, check_eq};
 use std::test::Fail;
 use streets::Street;
@@ -71,7 +73,9 @@ fn answers<F: FnOnce(&mut TownMut<'_>) -> Result<u16, Refusal>>(
     call: F,
     answer: Result<u16, Refusal>,
 ) -> Result<(), Fail>
-    requires { F.IsAlwaysCallable call }
+    requires callable { F.IsAlwaysCallable call }
+    requires stays { (t : _) (r : _) (u : _) → F.post call t r u → u.now.memory.ghost_name ≡ t.now.memory.ghost_name }
+    ensures same_memory { town.new.memory.ghost_name ≡ town.old.memory.ghost_name }
 {
     let before = words_of(town)?;
     check_eq(call(town), answer)?;
@@ -80,14 +84,19 @@ fn answers<F: FnOnce(&mut TownMut<'_>) -> Result<u16, Refusal>>(
 
 fn opens(
     town: &mut TownMut<'_>,
-    (one, other): (u32, u32),
+    ends: (u32, u32),
     long: u32,
     answer: Result<u16, Refusal>,
-) -> Result<(), Fail> {
+) -> Result<(), Fail>
+    ensures same_memory { town.new.memory.ghost_name ≡ town.old.memory.ghost_name }
+{
+    let (one, other) = ends;
     answers(town, |town| town.open_street(one, other, long), answer)
 }
 
-fn closes(town: &mut TownMut<'_>, i: u32, answer: Result<u16, Refusal>) -> Result<(), Fail> {
+fn closes(town: &mut TownMut<'_>, i: u32, answer: Result<u16, Refusal>) -> Result<(), Fail>
+    ensures same_memory { town.new.memory.ghost_name ≡ town.old.memory.ghost_name }
+{
     answers(town, |town| town.close_street(i), answer)
 }
 
@@ -115,7 +124,8 @@ fn refusals() -> Result<(), Fail> {
     closes(&mut town, 3, Err(Refusal::NotThere))?;
     closes(&mut town, 65_536, Err(Refusal::NotThere))?;
     closes(&mut town, 2, Ok(2))?;
-    opens(&mut town, (0, 1), 1, Ok(2))
+    opens(&mut town, (0, 1), 1, Ok(2))?;
+    check_eq(TownRef { memory: &memory }.count(), 3)
 }
 
 // The streets of corners 0 to 3 are these.
@@ -167,7 +177,9 @@ fn streets_of_corners(rt: HostRuntime) -> Result<(), Fail> {
 }
 
 // Fills the largest town: eight ends at each corner.
-fn fill(town: &mut TownMut<'_>) -> Result<(), Fail> {
+fn fill(town: &mut TownMut<'_>) -> Result<(), Fail>
+    ensures same_memory { town.new.memory.ghost_name ≡ town.old.memory.ghost_name }
+{
     for i in 0..1_024 {
         let n = u32::from(i);
         check_eq(town.open_street(n % 256, (7 * n + 3) % 256, n + 1), Ok(i))?;
@@ -176,7 +188,9 @@ fn fill(town: &mut TownMut<'_>) -> Result<(), Fail> {
 }
 
 // Closes the street with the lowest number until there is none.
-fn empty(town: &mut TownMut<'_>) -> Result<(), Fail> {
+fn empty(town: &mut TownMut<'_>) -> Result<(), Fail>
+    ensures same_memory { town.new.memory.ghost_name ≡ town.old.memory.ghost_name }
+{
     for _ in 0..1_024 {
         check_eq(town.close_street(0), Ok(0))?;
     }
@@ -197,6 +211,7 @@ fn largest_town(rt: HostRuntime) -> Result<(), Fail> {
     }
     empty(&mut town)?;
     assert_eq!(rt; town.close_street(0), Err(Refusal::NotThere));
+    assert_eq!(rt; TownRef { memory: &memory }.count(), 0);
     Ok(())
 }
 
