@@ -29,6 +29,10 @@ reply_text (Number n) = decimal n
 reply_text Odd = codes "odd"
 reply_text (Round k) = codes "round " ++ decimal k
 
+abbrev pub unreadable : Refused → Bool
+unreadable (Unread e) = true
+unreadable (Turned e) = false
+
 abbrev pub number_of : Refused → ℕ
 number_of (Unread e) = 1
 number_of (Turned e) = refusal_number e

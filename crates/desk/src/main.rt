@@ -39,7 +39,7 @@ fn print_lines(rt: &impl Print, town: &mut TownMut<'_>, calls: &[u8]) -> io::Res
             Ok(reply) => println!(rt; "{reply}")?,
             Err(refused) => {
                 println!(rt; "{refused}")?;
-                if let Refused::Unread(_) = refused {
+                if refused.is_unreadable() {
                     break;
                 }
             }

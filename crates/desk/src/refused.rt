@@ -30,6 +30,17 @@ impl From<Refusal> for Refused {
     }
 }
 
+impl Refused {
+    ghost use Rattle.desk.specs.Lines.{unreadable};
+
+    // Whether the row is no call: nothing says where the next one begins.
+    pub fn is_unreadable(&self) -> bool
+        ensures { result ≡ unreadable self.now }
+    {
+        matches!(self, Refused::Unread(_))
+    }
+}
+
 impl fmt::Display for Refused {
     ghost use Rattle.std.specs.Prelude.{Some};
     ghost use Rattle.desk.specs.Lines.{refused_text, number_of, place_of};
