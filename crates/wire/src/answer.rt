@@ -118,29 +118,42 @@ impl TryFrom<&[u8]> for Answer {
     ghost try_from_gives = { λ row r. read_as (as_answer (drop legs_at row.now)) r ≡ answer_in row.now };
 
     // The answer that a row is, its legs left where they are. It begins as reading a call does: a function for that would
-    // need a bound whose error is fixed. A u32 is cast to a usize, for which std has no `From`.
+    // need a bound whose error is fixed. Each case checks its own size, so that kinds are told apart once, which is faster.
+    // A u32 is cast to a usize, for which std has no `From`.
     fn try_from(row: &[u8]) -> Result<Answer, Unreadable> {
         let Some((&first, rest)) = row.split_first() else {
             return Err(Unreadable { place: 0 });
         };
         let kind = AnswerKind::try_from(first)?;
-        let legs = match kind {
-            AnswerKind::Shortest | AnswerKind::SomeRound => read_count(rest)?,
-            _ => 0,
-        };
-        exactly(kind.fields() + 2 * legs as usize, rest)?;
-        Ok(match kind {
-            AnswerKind::Refused => Answer::Refused {
-                number: read_word(rest, 0),
-                place: read_word(rest, 4),
-            },
-            AnswerKind::Number => Answer::Number(read_word(rest, 0)),
-            AnswerKind::Shortest => Answer::Shortest { legs },
-            AnswerKind::SomeRound => Answer::SomeRound {
-                legs,
-                low: read_word(rest, rest.len() - 4),
-            },
-            AnswerKind::Never => Answer::Never,
-        })
+        match kind {
+            AnswerKind::Refused => {
+                exactly(kind.fields(), rest)?;
+                Ok(Answer::Refused {
+                    number: read_word(rest, 0),
+                    place: read_word(rest, 4),
+                })
+            }
+            AnswerKind::Number => {
+                exactly(kind.fields(), rest)?;
+                Ok(Answer::Number(read_word(rest, 0)))
+            }
+            AnswerKind::Shortest => {
+                let legs = read_count(rest)?;
+                exactly(kind.fields() + 2 * legs as usize, rest)?;
+                Ok(Answer::Shortest { legs })
+            }
+            AnswerKind::SomeRound => {
+                let legs = read_count(rest)?;
+                exactly(kind.fields() + 2 * legs as usize, rest)?;
+                Ok(Answer::SomeRound {
+                    legs,
+                    low: read_word(rest, rest.len() - 4),
+                })
+            }
+            AnswerKind::Never => {
+                exactly(kind.fields(), rest)?;
+                Ok(Answer::Never)
+            }
+        }
     }
 }
