@@ -141,18 +141,22 @@ twice_total f [] ls j t e = refl
 twice_total f (s ∷ ss) ls j t e =
     grind (arith, nat_tests, e 0, weigh_front s ss f t, twice_total f ss ls (suc j) (λ i. t (suc i)) (λ i. grind (arith, e (suc i))))
 
+-- each street once, and some of them again
+once_and_again : (ss : List Street) (f : Street → ℕ) (ls : List Leg) →
+    ((i : ℕ) → i < length ss → (0 < times ls i) × (times ls i ≤ 2)) →
+    weigh ss f (times ls) ≡ total f ss + total f (twice_gone ss ls 0)
+once_and_again ss f ls few =
+    let t : ℕ → ℕ = λ i. mark (times ls i) 2 in
+    let split = weigh_split ss f (times ls) (λ _. 1) t (λ i l. grind (arith, nat_tests, few i l)) in
+    omega (arith, weigh_ones ss f, twice_total f ss ls 0 t (λ i. grind arith))
+
 module _ (ss : List Street) (c : ℕ) (ls : List Leg) (pos : positive ss ≡ true) (short : Shortest ss c ls) where
-  -- each street once, and some of them again
-  once_and_again : (f : Street → ℕ) → weigh ss f (times ls) ≡ total f ss + total f (twice_gone ss ls 0)
-  once_and_again f =
-      let r = from_round ss c ls short.goes_all in
-      let t : ℕ → ℕ = λ i. mark (times ls i) 2 in
-      let split = weigh_split ss f (times ls) (λ _. 1) t (λ i l. grind (arith, nat_tests, r.covers i l, never_thrice ss c i ls pos short)) in
-      omega (arith, weigh_ones ss f, twice_total f ss ls 0 t (λ i. grind arith))
+  again : (f : Street → ℕ) → weigh ss f (times ls) ≡ total f ss + total f (twice_gone ss ls 0)
+  again f = once_and_again ss f ls (λ i l. ((from_round ss c ls short.goes_all).covers i l, never_thrice ss c i ls pos short))
 
   -- so the streets that it repeats are a T-join of the odd corners
   pub repeats_join : (k : ℕ) → ends_at (twice_gone ss ls 0) k % 2 ≡ ends_at ss k % 2
-  repeats_join k = omega (arith, once_and_again (λ s. ends s k), round_even ss c ls short.goes_all k)
+  repeats_join k = omega (arith, again (λ s. ends s k), round_even ss c ls short.goes_all k)
 
   pub repeats_long : how_long ss ls ≡ all_long ss + all_long (twice_gone ss ls 0)
-  repeats_long = by_counts ss c ls c (from_round ss c ls short.goes_all).walks ∙ once_and_again (λ s. s.long)
+  repeats_long = by_counts ss c ls c (from_round ss c ls short.goes_all).walks ∙ again (λ s. s.long)
