@@ -20,46 +20,64 @@ accepted {m = m} {c = c} e may t behind =
     record { says = rw yes may; holds = rw yes t; kept = λ some. absurd (omega arith); behind = behind }
 
 -- a town opened with the limits l, handed on by the first check as l₁ and by the second as l₂
-module _ {l l₁ l₂ : Limits} (m : List ℕ) {n : ℕ} (first : cond (in_range l) (Some l) None ≡ Some l₁) (second : cond (leb (words l₁) (length m)) (Some l₁) None ≡ Some l₂) (all : n ≡ words l₂) where
+module _ (l : Limits) {l₁ l₂ : Limits} (m : List ℕ) (first : cond (in_range l) (Some l) None ≡ Some l₁) (second : cond (leb (words l₁) (length m)) (Some l₁) None ≡ Some l₂) where
   taken : (in_range l ≡ true) × (leb (words l) (length m) ≡ true) × (l ≡ l₂)
   taken = let a = cond_some _ _ _ first in let b = cond_some _ _ _ second in (a.0, rw a.1 b.0, a.1 ∙ b.1)
 
-  pub town_opened : {A : Type 0} {x : A} {ys : List ℕ} → length ys ≡ length (own n m) → Town l₂ ys [] → Opened l m (Ok x) (owned n m ys)
-  town_opened kept t =
-      let room : words l₂ ≤ length m = grind (arith, nat_tests, taken.1, ap words taken.2) in
+  pub room : words l₂ ≤ length m
+  room = grind (arith, nat_tests, taken.1, ap words taken.2)
+
+  pub town_opened : {A : Type 0} {x : A} {m₂ : List ℕ} → Town l₂ m₂ [] → drop (words l₂) m₂ ≡ drop (words l₂) m → Opened l m (Ok x) m₂
+  town_opened t behind =
       record {
         number = rw (taken.0, taken.1) refl;
         place = rw (taken.0, taken.1) refl;
-        holds = λ _. rw taken.2 (held.put_back _ _ all room kept t);
+        holds = λ _. rw taken.2 t;
         kept = λ some. absurd (omega arith);
-        behind = rw taken.2 (held.behind_stays _ _ all room _ kept);
+        behind = rw taken.2 behind;
       }
 
+  -- the same, when the words handed on have come back as ys
+  pub town_begun : {n : ℕ} → n ≡ words l₂ → {A : Type 0} {x : A} {ys : List ℕ} → length ys ≡ length (own n m) → Town l₂ ys [] → Opened l m (Ok x) (owned n m ys)
+  town_begun all kept t = town_opened (held.put_back _ _ all room kept t) (held.behind_stays _ _ all room _ kept)
+
+-- a street opened, when each check has handed on its value
+module _ (m : List ℕ) (a b long : ℕ) {a' b' long' i : ℕ} {s : Street} (is : s ≡ joining a' b' long') (one : cond (ltb a (limits_in m).corners) (Some a) None ≡ Some a') (other : cond (ltb b (limits_in m).corners) (Some b) None ≡ Some b') (fits : cond (leb 1 long && leb long longest) (Some long) None ≡ Some long') (next : cond (ltb (length (streets_in m)) (limits_in m).streets) (Some (length (streets_in m))) None ≡ Some i) where
+  asked : s ≡ joining a b long
+  asked = cc (is, (cond_some _ _ _ one).1, (cond_some _ _ _ other).1, (cond_some _ _ _ fits).1)
+
+  pub can_add : (length (streets_in m) < (limits_in m).streets) × Proper (limits_in m) s
+  can_add =
+      let p : Proper (limits_in m) (joining a' b' long') = record { one_there = grind (arith, nat_tests); other_there = grind (arith, nat_tests); some_long = grind (arith, nat_tests); not_too_long = grind (arith, nat_tests) } in
+      (grind (arith, nat_tests), rw is p)
+
+  pub street_opened : {m' : List ℕ} → Town (limits_in m) m' (streets_in m ++ s ∷ []) → drop (words (limits_in m)) m' ≡ drop (words (limits_in m)) m → Called m (opens a b long) (number i) m'
+  unfolding changed may_say
+  street_opened t behind = accepted (grind (arith, nat_tests)) (ap number (sym (cond_some _ _ _ next).1)) (rw asked at t) behind
+
+-- a street closed
+module _ {m : List ℕ} (i : ℕ) {i' : ℕ} (there : cond (ltb i (length (streets_in m))) (Some i) None ≡ Some i') where
+  pub street_closed : {m' : List ℕ} → Town (limits_in m) m' (remove (streets_in m) i') → drop (words (limits_in m)) m' ≡ drop (words (limits_in m)) m → Called m (closes i) (number i') m'
+  unfolding changed may_say
+  street_closed t behind =
+      let h = (cond_some _ _ _ there).1 in
+      accepted (grind (arith, nat_tests)) (ap number (sym h)) (rw (← h) at t) behind
+
+-- the same of the words of a sound town, which are handed on and come back as ys
 module _ {m : List ℕ} {n : ℕ} (t : Sound m) (all : n ≡ words (limits_in m)) where
-  -- a street opened, when each check has handed on its value
   module _ (a b long : ℕ) {a' b' long' i : ℕ} {s : Street} (is : s ≡ joining a' b' long') (one : cond (ltb a (limits_in m).corners) (Some a) None ≡ Some a') (other : cond (ltb b (limits_in m).corners) (Some b) None ≡ Some b') (fits : cond (leb 1 long && leb long longest) (Some long) None ≡ Some long') (next : cond (ltb (length (streets_in m)) (limits_in m).streets) (Some (length (streets_in m))) None ≡ Some i) where
-    pub can_add : Sound (own n m) × (length (streets_in (own n m)) < (limits_in (own n m)).streets) × Proper (limits_in (own n m)) s
-    can_add =
-        let o = (own_town t all).front in
-        let p : Proper (limits_in m) (joining a' b' long') = record { one_there = grind (arith, nat_tests); other_there = grind (arith, nat_tests); some_long = grind (arith, nat_tests); not_too_long = grind (arith, nat_tests) } in
-        rw (o.limits, o.streets) (own_town t all, grind (arith, nat_tests), rw is p)
+    pub adds : Sound (own n m) × (length (streets_in (own n m)) < (limits_in (own n m)).streets) × Proper (limits_in (own n m)) s
+    adds = let o = (own_town t all).front in let can = can_add _ a b long is one other fits next in rw (o.limits, o.streets) (own_town t all, can.0, can.1)
 
-    pub street_opened : {ys : List ℕ} → length ys ≡ length (own n m) → Town (limits_in (own n m)) ys (streets_in (own n m) ++ s ∷ []) → Called m (opens a b long) (number i) (owned n m ys)
-    unfolding changed may_say
-    street_opened kept u =
-        let asked : s ≡ joining a b long = cc ((cond_some _ _ _ one).1, (cond_some _ _ _ other).1, (cond_some _ _ _ fits).1) in
-        accepted (grind (arith, nat_tests)) (ap number (sym (cond_some _ _ _ next).1)) (held.changed t all _ kept (rw ((own_town t all).front.streets, asked) at u)) (changed_behind t all _ kept)
+    pub added : {ys : List ℕ} → length ys ≡ length (own n m) → Town (limits_in (own n m)) ys (streets_in (own n m) ++ s ∷ []) → Called m (opens a b long) (number i) (owned n m ys)
+    added kept u = street_opened _ a b long is one other fits next (held.changed t all _ kept (rw (own_town t all).front.streets at u)) (changed_behind t all _ kept)
 
-  -- a street closed
   module _ (i : ℕ) {i' : ℕ} (there : cond (ltb i (length (streets_in m))) (Some i) None ≡ Some i') where
     pub can_remove : Sound (own n m) × (i' < length (streets_in (own n m)))
     can_remove = let o = (own_town t all).front in rw (o.limits, o.streets) (own_town t all, grind (arith, nat_tests))
 
-    pub street_closed : {ys : List ℕ} → length ys ≡ length (own n m) → Town (limits_in (own n m)) ys (remove (streets_in (own n m)) i') → Called m (closes i) (number i') (owned n m ys)
-    unfolding changed may_say
-    street_closed kept u =
-        let h = (cond_some _ _ _ there).1 in
-        accepted (grind (arith, nat_tests)) (ap number (sym h)) (held.changed t all _ kept (rw ((own_town t all).front.streets, ← h) at u)) (changed_behind t all _ kept)
+    pub removed : {ys : List ℕ} → length ys ≡ length (own n m) → Town (limits_in (own n m)) ys (remove (streets_in (own n m)) i') → Called m (closes i) (number i') (owned n m ys)
+    removed kept u = street_closed i there (held.changed t all _ kept (rw (own_town t all).front.streets at u)) (changed_behind t all _ kept)
 
 pub memory_suffices : MemorySuffices
 memory_suffices l ss (opens a b n) e = grind (arith, nat_tests)

@@ -22,7 +22,10 @@ pub struct TownRef<'m> {
 fn below(i: u32, n: u16) -> Option<u16>
     ensures { result ≡ (if nat_lt i n then Some i else None) }
 {
-    u16::try_from(i).ok().filter(|i| *i < n)
+    if i >= u32::from(n) {
+        return None;
+    }
+    u16::try_from(i).ok()
 }
 
 impl<'m> TownRef<'m> {

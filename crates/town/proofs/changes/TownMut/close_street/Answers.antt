@@ -1,5 +1,5 @@
 use Rattle.town.proofs.Holding.{sound, changed}
-use Rattle.town.proofs.Calling.{can_remove, street_closed}
+use Rattle.town.proofs.Calling.{can_remove, removed}
 use Rattle.town.proofs.changes.TownMut.close_street.Goals as goal
 
 pub remove-requires : goal.remove-requires
@@ -11,4 +11,4 @@ pub invariant_of-self : goal.invariant_of-self
 invariant_of-self c = record { sound = sound (changed c.args.self.now.sound (rw c.read-town.ensures at c.words-n.ensures) _ c.remove.auto.town c.remove.ensures) }
 
 pub returns-clause-called : goal.returns-clause-called
-returns-clause-called c = street_closed c.args.self.now.sound (rw c.read-town.ensures at c.words-n.ensures) _ (cc) c.remove.auto.town c.remove.ensures
+returns-clause-called c = removed c.args.self.now.sound (rw c.read-town.ensures at c.words-n.ensures) _ (cc) c.remove.auto.town c.remove.ensures

@@ -1,5 +1,5 @@
-use Rattle.std.proofs.Common.{◌≡◌, ◌+◌, ap, ◌∙◌, arith, rules}
-use Rattle.town.specs.Layout.{limits_in, starts_from, lists_from}
+use Rattle.std.proofs.Common.{◌+◌, ap, ◌∙◌, arith, rules}
+use Rattle.town.specs.Layout.{starts_from, lists_from}
 use Rattle.town.proofs.Holding.{list_fits, list_read}
 use Rattle.town.proofs.reading.TownRef.list_at.Goals as goal
 
