@@ -33,7 +33,7 @@ impl From<Refusal> for Refused {
 impl Refused {
     ghost use Rattle.desk.specs.Lines.{unreadable};
 
-    // Whether the row is no call: nothing says where the next one begins.
+    // Whether the row is no call: nothing says where the next one begins. A `match` where it is called would have no contract.
     pub fn is_unreadable(&self) -> bool
         ensures { result ≡ unreadable self.now }
     {
