@@ -151,6 +151,7 @@ once_and_again ss f ls few =
     omega (arith, weigh_ones ss f, twice_total f ss ls 0 t (λ i. grind arith))
 
 module _ (ss : List Street) (c : ℕ) (ls : List Leg) (pos : positive ss ≡ true) (short : Shortest ss c ls) where
+  -- the same of a shortest round
   again : (f : Street → ℕ) → weigh ss f (times ls) ≡ total f ss + total f (twice_gone ss ls 0)
   again f = once_and_again ss f ls (λ i l. ((from_round ss c ls short.goes_all).covers i l, never_thrice ss c i ls pos short))
 

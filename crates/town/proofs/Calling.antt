@@ -55,29 +55,29 @@ module _ (m : List ℕ) (a b long : ℕ) {a' b' long' i : ℕ} {s : Street} (is 
   unfolding changed may_say
   street_opened t behind = accepted (grind (arith, nat_tests)) (ap number (sym (cond_some _ _ _ next).1)) (rw asked at t) behind
 
+  -- the same of the words of a sound town, which are handed on and come back as ys
+  module _ {n : ℕ} (t : Sound m) (all : n ≡ words (limits_in m)) where
+    pub adds : Sound (own n m) × (length (streets_in (own n m)) < (limits_in (own n m)).streets) × Proper (limits_in (own n m)) s
+    adds = let o = (own_town t all).front in rw (o.limits, o.streets) (own_town t all, can_add.0, can_add.1)
+
+    pub added : {ys : List ℕ} → length ys ≡ length (own n m) → Town (limits_in (own n m)) ys (streets_in (own n m) ++ s ∷ []) → Called m (opens a b long) (number i) (owned n m ys)
+    added kept u = street_opened (held.changed t all _ kept (rw (own_town t all).front.streets at u)) (changed_behind t all _ kept)
+
 -- a street closed
-module _ {m : List ℕ} (i : ℕ) {i' : ℕ} (there : cond (ltb i (length (streets_in m))) (Some i) None ≡ Some i') where
+module _ (m : List ℕ) (i : ℕ) {i' : ℕ} (there : cond (ltb i (length (streets_in m))) (Some i) None ≡ Some i') where
   pub street_closed : {m' : List ℕ} → Town (limits_in m) m' (remove (streets_in m) i') → drop (words (limits_in m)) m' ≡ drop (words (limits_in m)) m → Called m (closes i) (number i') m'
   unfolding changed may_say
   street_closed t behind =
       let h = (cond_some _ _ _ there).1 in
       accepted (grind (arith, nat_tests)) (ap number (sym h)) (rw (← h) at t) behind
 
--- the same of the words of a sound town, which are handed on and come back as ys
-module _ {m : List ℕ} {n : ℕ} (t : Sound m) (all : n ≡ words (limits_in m)) where
-  module _ (a b long : ℕ) {a' b' long' i : ℕ} {s : Street} (is : s ≡ joining a' b' long') (one : cond (ltb a (limits_in m).corners) (Some a) None ≡ Some a') (other : cond (ltb b (limits_in m).corners) (Some b) None ≡ Some b') (fits : cond (leb 1 long && leb long longest) (Some long) None ≡ Some long') (next : cond (ltb (length (streets_in m)) (limits_in m).streets) (Some (length (streets_in m))) None ≡ Some i) where
-    pub adds : Sound (own n m) × (length (streets_in (own n m)) < (limits_in (own n m)).streets) × Proper (limits_in (own n m)) s
-    adds = let o = (own_town t all).front in let can = can_add _ a b long is one other fits next in rw (o.limits, o.streets) (own_town t all, can.0, can.1)
-
-    pub added : {ys : List ℕ} → length ys ≡ length (own n m) → Town (limits_in (own n m)) ys (streets_in (own n m) ++ s ∷ []) → Called m (opens a b long) (number i) (owned n m ys)
-    added kept u = street_opened _ a b long is one other fits next (held.changed t all _ kept (rw (own_town t all).front.streets at u)) (changed_behind t all _ kept)
-
-  module _ (i : ℕ) {i' : ℕ} (there : cond (ltb i (length (streets_in m))) (Some i) None ≡ Some i') where
+  -- the same of the words of a sound town, likewise
+  module _ {n : ℕ} (t : Sound m) (all : n ≡ words (limits_in m)) where
     pub can_remove : Sound (own n m) × (i' < length (streets_in (own n m)))
     can_remove = let o = (own_town t all).front in rw (o.limits, o.streets) (own_town t all, grind (arith, nat_tests))
 
     pub removed : {ys : List ℕ} → length ys ≡ length (own n m) → Town (limits_in (own n m)) ys (remove (streets_in (own n m)) i') → Called m (closes i) (number i') (owned n m ys)
-    removed kept u = street_closed i there (held.changed t all _ kept (rw (own_town t all).front.streets at u)) (changed_behind t all _ kept)
+    removed kept u = street_closed (held.changed t all _ kept (rw (own_town t all).front.streets at u)) (changed_behind t all _ kept)
 
 pub memory_suffices : MemorySuffices
 memory_suffices l ss (opens a b n) e = grind (arith, nat_tests)

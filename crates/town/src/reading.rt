@@ -18,7 +18,7 @@ pub struct TownRef<'m> {
     pub ghost sound: { Sound memory.now },
 }
 
-// The number, if it is below n.
+// The number, if it is below n. Compared first, so that the conversion costs nothing.
 fn below(i: u32, n: u16) -> Option<u16>
     ensures { result ≡ (if nat_lt i n then Some i else None) }
 {
